@@ -1,0 +1,4 @@
+pub mod Refusing
+pub mod Pointing
+pub mod Listing
+pub mod Storing

@@ -1,0 +1,47 @@
+-- Laws of what holds of each pointer of a list, over any test. Assumes nothing.
+use mathlib.Core.Path.{_≡_, refl, sym, ap, _∙_}
+use mathlib.Core.Bool.{Bool, true, false, _&&_}
+use mathlib.Core.List.{List, [], _∷_, _++_}
+use Prim.Native.Nat.{ℕ, zero, suc, _+_, _-_, _≤_, _<_, min}
+use native.Mathlib.Numerals.{add-one}
+use native.Mathlib.Omega.{arith}
+use lib.ListN.{length, take, drop, getD, length-take, drop-of-length-le}
+use lib.Seq.{drop-cons, getD-take}
+use borrow.Author.Needs.{needs}
+use Rattle.strlib.proofs.Refusing.{and-both}
+use Rattle.strlib.specs.Pointer.{all}
+
+-- what is left of the first c of a list, one element taken off
+pub prefix-cons : {A : Type 0} (l : List A) (c i : ℕ) (d : A) → i < c → i < length l → drop i (take c l) ≡ getD l i d ∷ drop (i + 1) (take c l)
+prefix-cons l c i d h k =
+    let n : i < length (take c l) = simp length-take (omega arith) in
+    rw (add-one, drop-cons (take c l) i d n, getD-take c l i d h)
+
+pub prefix-end : {A : Type 0} (l : List A) (c i : ℕ) → min c (length l) ≤ i → drop i (take c l) ≡ []
+prefix-end l c i h = let n : length (take c l) ≤ i = simp length-take (omega arith) in drop-of-length-le (take c l) n
+
+module _ {A : Type 0} (f : A → Bool) (l : List A) (c i : ℕ) (e : all f (take c l) ≡ all f (drop i (take c l))) where
+  pub all-step : (d : A) (b : Bool) → b ≡ f (getD l i d) → b ≡ true → i < c → i < length l → all f (take c l) ≡ all f (drop (i + 1) (take c l))
+  unfolding all
+  all-step d b p q h k = e ∙ rw (prefix-cons l c i d h k, ← p, q)
+
+  pub all-stop : (d : A) (b : Bool) → b ≡ f (getD l i d) → b ≡ false → i < c → i < length l → false ≡ all f (take c l)
+  unfolding all
+  all-stop d b p q h k = sym (e ∙ rw (prefix-cons l c i d h k, ← p, q))
+
+  pub all-end : c ≤ i → true ≡ all f (take c l)
+  unfolding all
+  all-end h = sym (e ∙ rw (prefix-end l c i (omega arith)))
+
+  pub all-over : (n : ℕ) → length l ≡ n → n ≤ i → true ≡ all f (take c l)
+  unfolding all
+  all-over n h k = sym (e ∙ rw (prefix-end l c i (omega arith)))
+
+-- one of those of which f holds
+pub all-at : {A : Type 0} (f : A → Bool) (l : List A) (i : ℕ) (d : A) → all f l ≡ true → i < length l → f (getD l i d) ≡ true
+unfolding all
+all-at f [] i d e h = absurd (omega arith)
+all-at f (x ∷ l) zero d e h = and-both (f x) (all f l) e .0
+all-at f (x ∷ l) (suc i) d e h = all-at f l i d (and-both (f x) (all f l) e .1) (omega arith)
+
+pub ruleset all-laws = (needs, all-step, all-stop, all-end, all-over)

@@ -1,0 +1,124 @@
+-- Laws of one pointer: the tests of the code are those of the definitions. Assumes nothing.
+use mathlib.Core.Path.{_≡_, refl, sym, _∙_}
+use mathlib.Core.Bool.{Bool, true, false, _&&_, and-false}
+use mathlib.Core.List.{List, [], _∷_}
+use Prim.Native.Nat.{ℕ, _+_, _-_, _≤_, _<_, min, max}
+use native.Mathlib.Nat.{sub-self}
+use native.Mathlib.Numerals.{add-one}
+use native.Mathlib.Omega.{arith}
+use lib.Dec.{leb}
+use lib.ListN.{length, getD, take, drop, length-take, length-drop, drop-of-length-le}
+use lib.Seq.{drop-cons, take-all, take-nil}
+use borrow.Author.Needs.{needs}
+use borrow.Author.Tests.{leb-true, leb-false, le-leb, lt-leb}
+use Rattle.strlib.proofs.Refusing.{and-both}
+use Rattle.strlib.specs.Pointer.{goodIn, sized, partOf, textOf, all, characters, apart}
+use Rattle.strlib.specs.declared.StrPtr.{StrPtr}
+
+-- two tests that hold together are equal
+pub leb-same : (a b c d : ℕ) → (a ≤ b → c ≤ d) → (b < a → d < c) → leb a b ≡ leb c d
+leb-same a b c d f g = go (leb a b) refl
+  where
+    go : (t : Bool) → leb a b ≡ t → leb a b ≡ leb c d
+    go true e = e ∙ sym (le-leb c d (f (leb-true a b e)))
+    go false e = e ∙ sym (lt-leb c d (g (leb-false a b e)))
+
+-- either order of two numbers
+pub either : {X : Type 0} (m n : ℕ) → (m ≤ n → X) → (n < m → X) → X
+either {X} m n f g = go (leb m n) refl
+  where
+    go : (b : Bool) → leb m n ≡ b → X
+    go true e = f (leb-true m n e)
+    go false e = g (leb-false m n e)
+
+-- ---- good pointers
+
+pub good-is : (n : ℕ) (p : StrPtr) → goodIn n p ≡ true → (p .length ≤ p .maximum) × (p .start + p .maximum ≤ n)
+unfolding goodIn
+good-is n p e = let b = and-both (leb (p .length) (p .maximum)) (leb (p .start + p .maximum) n) e in (leb-true _ _ (b .0), leb-true _ _ (b .1))
+
+pub is-good : (n : ℕ) (p : StrPtr) → p .length ≤ p .maximum → p .start + p .maximum ≤ n → goodIn n p ≡ true
+unfolding goodIn
+is-good n p h k = rw (le-leb _ _ h, le-leb _ _ k)
+
+-- the same room with another length
+pub good-sized : (n : ℕ) (p : StrPtr) (l : ℕ) → goodIn n p ≡ true → l ≤ p .maximum → goodIn n (sized p l) ≡ true
+unfolding sized
+good-sized n p l e h = is-good n (sized p l) h (good-is n p e .1)
+
+-- a part whose room ends no later
+pub good-part : (n : ℕ) (p : StrPtr) (skip l m : ℕ) → goodIn n p ≡ true → l ≤ m → skip + m ≤ p .maximum → goodIn n (partOf p skip l m) ≡ true
+unfolding partOf
+good-part n p skip l m e h k = is-good n (partOf p skip l m) h (omega (arith, good-is n p e .1))
+
+pub text-length : (s : List ℕ) (p : StrPtr) → goodIn (length s) p ≡ true → length (textOf s p) ≡ p .length
+unfolding textOf
+text-length s p e = simp (length-take, length-drop) (omega (arith, good-is (length s) p e))
+
+module _ (n : ℕ) (p : StrPtr) where
+  pub good-short : p .maximum < p .length → false ≡ goodIn n p
+  unfolding goodIn
+  good-short h = simp (lt-leb _ _ h)
+
+  pub good-over : n < p .maximum → false ≡ goodIn n p
+  unfolding goodIn
+  good-over h = let k : n < p .start + p .maximum = omega arith in simp (lt-leb _ _ k, and-false)
+
+  pub good-last : p .length ≤ p .maximum → p .maximum ≤ n → leb (p .start) (n - p .maximum) ≡ goodIn n p
+  unfolding goodIn
+  good-last h k = simp (le-leb _ _ h) (leb-same (p .start) (n - p .maximum) (p .start + p .maximum) n (λ a. omega arith) (λ a. omega arith))
+
+-- ---- bytes that share nothing
+
+module _ (a m b n : ℕ) where
+  pub apart-none-a : b < a → m ≡ 0 → true ≡ apart a m b n
+  unfolding apart
+  apart-none-a h k = sym (le-leb (min (a + m) (b + n)) (max a b) (omega arith))
+
+  pub apart-behind : b < a → (m ≡ 0 → ⊥) → leb n (a - b) ≡ apart a m b n
+  unfolding apart
+  apart-behind h k = leb-same n (a - b) (min (a + m) (b + n)) (max a b) (λ z. omega arith) (λ z. omega arith)
+
+  pub apart-none-b : a ≤ b → n ≡ 0 → true ≡ apart a m b n
+  unfolding apart
+  apart-none-b h k = sym (le-leb (min (a + m) (b + n)) (max a b) (omega arith))
+
+  pub apart-before : a ≤ b → (n ≡ 0 → ⊥) → leb m (b - a) ≡ apart a m b n
+  unfolding apart
+  apart-before h k = leb-same m (b - a) (min (a + m) (b + n)) (max a b) (λ z. omega arith) (λ z. omega arith)
+
+-- ---- the characters of a string
+
+module _ (s : List ℕ) (i : ℕ) (e : characters s ≡ characters (drop i s)) where
+  pub characters-step : i < length s → getD s i 0 ≤ 127 → characters s ≡ characters (drop (i + 1) s)
+  unfolding characters all
+  characters-step h k = e ∙ rw (add-one, drop-cons s i 0 h) (simp (le-leb (getD s i 0) 127 k))
+
+  pub characters-stop : i < length s → 127 < getD s i 0 → false ≡ characters s
+  unfolding characters all
+  characters-stop h k = sym (e ∙ rw (drop-cons s i 0 h) (simp (lt-leb (getD s i 0) 127 k)))
+
+  pub characters-end : length s ≤ i → true ≡ characters s
+  unfolding characters all
+  characters-end k = sym (e ∙ rw drop-of-length-le)
+
+module _ (s : List ℕ) (p : StrPtr) where
+  pub text-past : length s < p .start → take (length s - length s) (drop (length s) s) ≡ textOf s p
+  unfolding textOf
+  text-past h = let k : length s ≤ p .start = omega arith in rw (sub-self, drop-of-length-le s k, take-nil)
+
+  pub text-over : length s - p .start < p .length → take (length s - p .start) (drop (p .start) s) ≡ textOf s p
+  unfolding textOf
+  text-over h =
+      take-all (length s - p .start) (drop (p .start) s) (simp length-drop (omega arith))
+      ∙ sym (take-all (p .length) (drop (p .start) s) (simp length-drop (omega arith)))
+
+  pub text-in : take (p .start + p .length - p .start) (drop (p .start) s) ≡ textOf s p
+  unfolding textOf
+  text-in = let e : p .start + p .length - p .start ≡ p .length = omega arith in rw e
+
+pub ruleset good-laws = (needs, good-short, good-over, good-last)
+
+pub ruleset apart-laws = (needs, apart-none-a, apart-behind, apart-none-b, apart-before)
+
+pub ruleset text-laws = (needs, text-past, text-over, text-in, characters-step, characters-stop, characters-end)

@@ -1,0 +1,126 @@
+-- Laws of refusals: the checks made one behind the other find the first that fails, and an answer follows from the number found.
+-- Assumes nothing.
+use mathlib.Core.Path.{_≡_, refl, sym, ap, _∙_}
+use mathlib.Core.Bool.{Bool, true, false, cond, _&&_, false≢true}
+use mathlib.Core.List.{List, [], _∷_}
+use Prim.Native.Nat.{ℕ, zero, suc, _<_}
+use native.Mathlib.Omega.{arith}
+use lib.Dec.{ltb}
+use borrow.Author.Needs.{needs}
+use borrow.Author.Tests.{ltb-true}
+use Rattle.strlib.specs.Refusal.{Outcome, refused, gives, first, also, outcome, after, ruled}
+
+pub and-both : (a b : Bool) → (a && b) ≡ true → (a ≡ true) × (b ≡ true)
+and-both true b e = (refl, e)
+and-both false b e = absurd (false≢true e)
+
+-- no check has the number 0
+abbrev pub numbered : List (ℕ × Bool) → Bool
+numbered [] = true
+numbered (c ∷ cs) = ltb 0 (c .0) && numbered cs
+
+-- ---- finding the number
+
+pub also-found : (k n : ℕ) (ok : Bool) → (k ≡ 0 → ⊥) → k ≡ also k n ok
+unfolding also
+also-found zero n ok h = absurd (h refl)
+also-found (suc k) n ok h = refl
+
+module _ (k n : ℕ) (ok : Bool) (z : k ≡ 0) where
+  pub also-passed : ok ≡ true → 0 ≡ also k n ok
+  unfolding also
+  also-passed e = rw (z, e)
+
+  pub also-failed : ok ≡ false → n ≡ also k n ok
+  unfolding also
+  also-failed e = rw (z, e)
+
+-- the checks one behind the other, after those that found k
+abbrev pub inTurn : ℕ → List (ℕ × Bool) → ℕ
+inTurn k [] = k
+inTurn k (c ∷ cs) = inTurn (also k (c .0) (c .1)) cs
+
+turn-found : (k : ℕ) (cs : List (ℕ × Bool)) → inTurn (suc k) cs ≡ suc k
+unfolding also
+turn-found k [] = refl
+turn-found k (c ∷ cs) = turn-found k cs
+
+turn-first : (cs : List (ℕ × Bool)) → numbered cs ≡ true → inTurn 0 cs ≡ first cs
+unfolding also
+turn-first [] h = refl
+turn-first (c ∷ cs) h =
+    let b = and-both (ltb 0 (c .0)) (numbered cs) h in
+    go (c .0) (c .1) (b .0) (turn-first cs (b .1))
+  where
+    go : (n : ℕ) (ok : Bool) → ltb 0 n ≡ true → inTurn 0 cs ≡ first cs → inTurn (cond ok 0 n) cs ≡ cond ok (first cs) n
+    go n true l e = e
+    go zero false l e = absurd (false≢true l)
+    go (suc n) false l e = turn-found n cs
+
+-- a call's number, from the checks it made in turn
+pub first-is : (cs : List (ℕ × Bool)) → numbered cs ≡ true → (k : ℕ) → k ≡ inTurn 0 cs → k ≡ first cs
+first-is cs h k e = e ∙ turn-first cs h
+
+-- ---- what is known where the number is 0
+
+abbrev pub Passed : List (ℕ × Bool) → Type 0
+Passed [] = Unit
+Passed (c ∷ cs) = (c .1 ≡ true) × Passed cs
+
+pass-one : (n : ℕ) (ok : Bool) (r : ℕ) → 0 < n → cond ok r n ≡ 0 → (ok ≡ true) × (r ≡ 0)
+pass-one n true r h e = (refl, e)
+pass-one n false r h e = absurd (omega arith)
+
+pub passed : (cs : List (ℕ × Bool)) → numbered cs ≡ true → first cs ≡ 0 → Passed cs
+passed [] h e = tt
+passed (c ∷ cs) h e =
+    let b = and-both (ltb 0 (c .0)) (numbered cs) h in
+    let p = pass-one (c .0) (c .1) (first cs) (ltb-true 0 (c .0) (b .0)) e in
+    (p .0, passed cs (b .1) (p .1))
+
+-- ---- the answer, and what was lent
+
+module _ (k m : ℕ) (e : k ≡ m) where
+  pub outcome-no : {A : Type 0} (x : A) → (k ≡ 0 → ⊥) → refused k ≡ outcome m x
+  unfolding outcome
+  outcome-no x h = rw (← e) (go k h)
+    where
+      go : (n : ℕ) → (n ≡ 0 → ⊥) → refused n ≡ outcome n x
+      go zero f = absurd (f refl)
+      go (suc n) f = refl
+
+  pub outcome-yes : {A : Type 0} (x y : A) → k ≡ 0 → x ≡ y → gives x ≡ outcome m y
+  unfolding outcome
+  outcome-yes x y h p = let z : m ≡ 0 = omega arith in rw z (ap gives p)
+
+  pub after-no : (new old : List ℕ) → (k ≡ 0 → ⊥) → old ≡ after m new old
+  unfolding after
+  after-no new old h = rw (← e) (go k h)
+    where
+      go : (n : ℕ) → (n ≡ 0 → ⊥) → old ≡ after n new old
+      go zero f = absurd (f refl)
+      go (suc n) f = refl
+
+  pub after-yes : (t new old : List ℕ) → k ≡ 0 → t ≡ new → t ≡ after m new old
+  unfolding after
+  after-yes t new old h p = let z : m ≡ 0 = omega arith in rw z p
+
+  pub ruled-no : {A : Type 0} (y : A) (new old : List ℕ) → (k ≡ 0 → ⊥) → (refused k, old) ≡ ruled m y new old
+  unfolding ruled
+  ruled-no y new old h = rw (← (outcome-no y h), ← (after-no new old h))
+
+  pub ruled-yes : {A : Type 0} (x y : A) (t new old : List ℕ) → k ≡ 0 → x ≡ y → t ≡ new → (gives x, t) ≡ ruled m y new old
+  unfolding ruled
+  ruled-yes x y t new old h p q = rw (← (outcome-yes x y h p), ← (after-yes t new old h q))
+
+-- an answer that is no refusal
+pub outcome-gave : {A : Type 0} (k : ℕ) (x y : A) → outcome k x ≡ gives y → (k ≡ 0) × (x ≡ y)
+unfolding outcome
+outcome-gave zero x y e = (refl, cc)
+outcome-gave (suc k) x y e = let z : _≡_ {A = ℕ} 0 1 = cc in absurd (omega arith)
+
+pub ruled-gave : {A : Type 0} (k : ℕ) (x y : A) (new old : List ℕ) → ruled k x new old .0 ≡ gives y → (k ≡ 0) × ((x ≡ y) × (ruled k x new old .1 ≡ new))
+unfolding ruled after
+ruled-gave k x y new old e = let g = outcome-gave k x y e in (g .0, (g .1, rw (g .0)))
+
+pub ruleset check-laws = (needs, also-found, also-passed, also-failed)

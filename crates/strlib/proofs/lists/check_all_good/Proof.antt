@@ -1,0 +1,10 @@
+use Rattle.strlib.proofs.lists.check_all_good.Statement.{statement}
+use Rattle.strlib.proofs.lists.check_all_good.Tie as tie
+
+pub check-all-good-spec : {M : Type 1} → statement M
+check-all-good-spec =
+    tie.close
+    (tie.spec
+    (λ c κs. tt)
+    (λ c κs. tt)
+    (λ c. cc))

@@ -1,0 +1,14 @@
+use Rattle.strlib.specs.Pointer.{clear}
+use Rattle.strlib.proofs.strings.is_clear.Statement.{statement}
+use Rattle.strlib.proofs.strings.is_clear.Tie as tie
+
+returns : tie.Need-returns
+unfolding clear
+returns c = cc
+
+pub is-clear-spec : {M : Type 1} → statement M
+is-clear-spec =
+    tie.close
+    (tie.spec
+    (λ c κs. tt)
+    returns)

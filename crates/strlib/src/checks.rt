@@ -1,0 +1,31 @@
+// The checks of a call, made in the order of their numbers: `found` is the refusal of the checks before, 0 for none.
+// A string's characters are looked at only where nothing was refused before.
+use super::StrPtr;
+use super::strings;
+ghost use mathlib.Core.Path.{_≡_};
+ghost use Rattle.strlib.specs.Pointer.{goodIn, readable};
+ghost use Rattle.strlib.specs.Refusal.{also};
+
+pub fn check(found: u8, number: u8, ok: bool) -> u8
+    ensures { λ r. ⌜ r ≡ also found number ok ⌝ }
+{
+    if found != 0 {
+        return found;
+    }
+    if ok { 0 } else { number }
+}
+
+pub fn check_good(found: u8, n: usize, p: StrPtr) -> u8
+    ensures { λ r. ⌜ r ≡ also found 1 (goodIn n p) ⌝ }
+{
+    check(found, 1, p.is_good(n))
+}
+
+pub fn check_readable(found: u8, store: &[u8], p: StrPtr) -> u8
+    ensures { λ r. ⌜ r ≡ also found 2 (readable (now (store .entry)) p) ⌝ }
+{
+    if found != 0 {
+        return found;
+    }
+    check(found, 2, strings::is_readable(store, p))
+}

@@ -1,0 +1,106 @@
+// The ground of the string library: string pointers, their limits, and the checks that every call makes.
+mod checks;
+mod lists;
+mod strings;
+
+ghost use mathlib.Core.Path.{_≡_};
+ghost use Rattle.strlib.specs.Pointer.{goodIn, pointer, sized};
+pub use checks::check;
+pub use checks::check_good;
+pub use checks::check_readable;
+pub use lists::check_all_clear;
+pub use lists::check_all_good;
+pub use lists::check_all_readable;
+pub use strings::are_characters;
+pub use strings::is_clear;
+pub use strings::text;
+
+// A string pointer of document 01: where a string starts in its store, its length, and the maximum that its room takes.
+pub struct StrPtr {
+    pub start: usize,
+    pub length: usize,
+    pub maximum: usize,
+}
+
+// A list: the first `count` of these, the count being passed beside it.
+pub type StrList = [StrPtr; StrPtr::LIST_MAX];
+
+// The answer of a call that gives a string pointer and nothing more.
+pub enum StrAnswer {
+    Given(StrPtr),
+    Refused(u8),
+}
+
+impl StrPtr {
+    // Bytes in a store.
+    pub const STORE_MAX: usize = 65536;
+
+    // The last character's code.
+    pub const CHARACTER_MAX: u8 = 127;
+
+    // Strings in a list, and their characters together where it is translated into a table.
+    pub const LIST_MAX: usize = 32;
+
+    pub const LIST_CHARACTERS_MAX: usize = 240;
+
+    // Words of sixteen bits in a table.
+    pub const TABLE_MIN: usize = 31461;
+
+    // A translation goes from its negative to this.
+    pub const TRANSLATION_MAX: i64 = 127;
+
+    pub const BASE_MIN: usize = 2;
+
+    pub const BASE_MAX: usize = 10;
+
+    // The range of 36 bits.
+    pub const NUMBER_MIN: i64 = -34359738368;
+
+    pub const NUMBER_MAX: i64 = 34359738367;
+
+    // A pointer stores what it is given; whether it is good depends on the store of a call.
+    pub fn new(start: usize, length: usize, maximum: usize) -> Self
+        ensures { λ r. ⌜ r ≡ pointer start length maximum ⌝ }
+    {
+        Self {
+            start,
+            length,
+            maximum,
+        }
+    }
+
+    // A string that fills its room.
+    pub fn full(start: usize, length: usize) -> Self
+        ensures { λ r. ⌜ r ≡ pointer start length length ⌝ }
+    {
+        Self {
+            start,
+            length,
+            maximum: length,
+        }
+    }
+
+    // The same room with another length.
+    pub fn sized(self, length: usize) -> Self
+        ensures { λ r. ⌜ r ≡ sized self length ⌝ }
+    {
+        Self {
+            start: self.start,
+            length,
+            maximum: self.maximum,
+        }
+    }
+
+    // Whether the pointer is good for a store of n bytes.
+    pub fn is_good(self, n: usize) -> bool
+        ensures { λ r. ⌜ r ≡ goodIn n self ⌝ }
+    {
+        if self.maximum < self.length {
+            return false;
+        }
+        if n < self.maximum {
+            return false;
+        }
+        self.start <= n - self.maximum
+    }
+}

@@ -1,0 +1,69 @@
+// What a pointer names in a store. Each function takes any pointer, good or not.
+use super::StrPtr;
+ghost use mathlib.Core.Path.{_≡_};
+ghost use Rattle.strlib.specs.Pointer.{textOf, characters, readable, apart, clear};
+
+// Whether each byte is a character, 0 to 127.
+pub fn are_characters(bytes: &[u8]) -> bool
+    ensures { λ r. ⌜ r ≡ characters (now (bytes .entry)) ⌝ }
+{
+    let mut i = 0;
+    while i < bytes.len() {
+        if StrPtr::CHARACTER_MAX < bytes[i] {
+            return false;
+        }
+        i += 1;
+    }
+    true
+}
+
+// The characters of a string; of a pointer that is not good, what of them lies in the store.
+pub fn text(store: &[u8], p: StrPtr) -> &[u8]
+    ensures { λ r. ⌜ now r ≡ textOf (now (store .entry)) p ⌝ }
+{
+    let n = store.len();
+    let a = p.start;
+    let length = p.length;
+    if n < a {
+        return &store[n..];
+    }
+    if n - a < length {
+        return &store[a..];
+    }
+    let e = a + length;
+    &store[a..e]
+}
+
+pub fn is_readable(store: &[u8], p: StrPtr) -> bool
+    ensures { λ r. ⌜ r ≡ readable (now (store .entry)) p ⌝ }
+{
+    are_characters(text(store, p))
+}
+
+// Whether m bytes from a and n bytes from b share none.
+fn is_apart(a: usize, m: usize, b: usize, n: usize) -> bool
+    ensures { λ r. ⌜ r ≡ apart a m b n ⌝ }
+{
+    if b < a {
+        if m == 0 {
+            return true;
+        }
+        return n <= a - b;
+    }
+    if n == 0 {
+        return true;
+    }
+    m <= b - a
+}
+
+// Whether a source's characters share no byte with a destination's room.
+pub fn is_clear(destination: StrPtr, source: StrPtr) -> bool
+    ensures { λ r. ⌜ r ≡ clear destination source ⌝ }
+{
+    is_apart(
+        source.start,
+        source.length,
+        destination.start,
+        destination.maximum,
+    )
+}

@@ -26,6 +26,11 @@ unfolding also
 also-found zero n ok h = absurd (h refl)
 also-found (suc k) n ok h = refl
 
+pub also-true : (k n : ℕ) → k ≡ also k n true
+unfolding also
+also-true zero n = refl
+also-true (suc k) n = refl
+
 module _ (k n : ℕ) (ok : Bool) (z : k ≡ 0) where
   pub also-passed : ok ≡ true → 0 ≡ also k n ok
   unfolding also

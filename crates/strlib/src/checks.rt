@@ -3,7 +3,7 @@
 use super::StrPtr;
 use super::strings;
 ghost use mathlib.Core.Path.{_≡_};
-ghost use Rattle.strlib.specs.Pointer.{goodIn, readable};
+ghost use Rattle.strlib.specs.Pointer.{storeFits, goodIn, readable};
 ghost use Rattle.strlib.specs.Refusal.{also};
 
 pub fn check(found: u8, number: u8, ok: bool) -> u8
@@ -13,6 +13,13 @@ pub fn check(found: u8, number: u8, ok: bool) -> u8
         return found;
     }
     if ok { 0 } else { number }
+}
+
+// The first check of a call: a store is at most 65,536 bytes.
+pub fn check_store(store: &[u8]) -> u8
+    ensures { λ r. ⌜ r ≡ also 0 3 (storeFits (now (store .entry))) ⌝ }
+{
+    check(0, 3, store.len() <= StrPtr::STORE_MAX)
 }
 
 pub fn check_good(found: u8, n: usize, p: StrPtr) -> u8

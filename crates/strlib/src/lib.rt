@@ -47,7 +47,9 @@ impl StrPtr {
     // Words of sixteen bits in a table.
     pub const TABLE_MIN: usize = 31461;
 
-    // A translation goes from its negative to this.
+    // The range of a translation.
+    pub const TRANSLATION_MIN: i64 = -127;
+
     pub const TRANSLATION_MAX: i64 = 127;
 
     pub const BASE_MIN: usize = 2;

@@ -1,0 +1,4 @@
+pub mod Table
+pub mod Whole
+pub mod Deciding
+pub mod Calling

@@ -1,0 +1,11 @@
+use mir.Facts.{toZ-ofZ}
+use Rattle.compare.proofs.refusal.check_translation.Statement.{statement}
+use Rattle.compare.proofs.refusal.check_translation.Tie as tie
+
+pub check-translation-spec : {M : Type 1} → statement M
+check-translation-spec =
+    tie.close
+    (tie.spec
+    (λ c κs. tt)
+    (λ c κs. tt)
+    (λ c. cc (toZ-ofZ (c .before .before .fits .translation))))

@@ -1,0 +1,68 @@
+// What a comparison asks of numbers and of single characters.
+use strlib::StrPtr;
+ghost use mathlib.Core.Path.{_≡_};
+ghost use mathlib.Core.Bool.{cond, _&&_};
+ghost use lib.ListN.{getD};
+ghost use Rattle.compare.specs.Order.{orderN, signOf};
+ghost use Rattle.compare.specs.Compare.{translates, pairs, lengthDecides};
+
+fn both(a: bool, b: bool) -> bool
+    ensures { λ r. ⌜ r ≡ (a && b) ⌝ }
+{
+    if a { b } else { false }
+}
+
+pub fn pick(test: bool, a: usize, b: usize) -> usize
+    ensures { λ r. ⌜ r ≡ cond test a b ⌝ }
+{
+    if test { a } else { b }
+}
+
+pub fn in_translation(t: i64) -> bool
+    ensures { λ r. ⌜ r ≡ translates t ⌝ }
+{
+    both(StrPtr::TRANSLATION_MIN <= t, t <= StrPtr::TRANSLATION_MAX)
+}
+
+pub fn order_of(m: usize, n: usize) -> usize
+    ensures { λ r. ⌜ r ≡ orderN m n ⌝ }
+{
+    pick(m < n, 0, pick(n < m, 2, 1))
+}
+
+pub fn sign_of(m: usize, n: usize) -> i8
+    ensures { λ r. ⌜ r ≡ signOf m n ⌝ }
+{
+    if m < n {
+        return -1;
+    }
+    if n < m {
+        return 1;
+    }
+    0
+}
+
+// Character i of a text, counted from 0, with blanks past its end.
+pub fn padded(x: &[u8], i: usize) -> u8
+    ensures { λ r. ⌜ r ≡ getD (now (x .entry)) i 32 ⌝ }
+{
+    if i < x.len() { x[i] } else { b' ' }
+}
+
+// How many pairs a style compares.
+pub fn pairs_of(style: usize, m: usize, n: usize) -> usize
+    ensures { λ r. ⌜ r ≡ pairs style m n ⌝ }
+{
+    if style == 0 {
+        pick(m < n, n, m)
+    } else {
+        pick(m < n, m, n)
+    }
+}
+
+// Exact style's length rule.
+pub fn length_decides(style: usize, m: usize, n: usize) -> bool
+    ensures { λ r. ⌜ r ≡ lengthDecides style m n ⌝ }
+{
+    both(style == 1, m != n)
+}

@@ -1,0 +1,4 @@
+pub mod Bounding
+pub mod Making
+pub mod Goodness
+pub mod Slicing

@@ -1,0 +1,85 @@
+-- Laws of read-only cuts: a slice is cut as the string that it is whole. Assumes nothing.
+use mathlib.Core.Path.{_≡_, refl, sym, ap, _∙_}
+use mathlib.Core.Bool.{Bool, true, false, cond}
+use mathlib.Core.List.{List}
+use Prim.Native.Nat.{ℕ, _+_, _≤_, _<_, _*_, _^_}
+use native.Mathlib.Omega.{arith}
+use lib.ListN.{length}
+use lib.Seq.{take-length}
+use denote.Ref.{RefT, now}
+use borrow.Author.Needs.{needs}
+use Rattle.strlib.proofs.Pointing.{good-is, is-good, text-length}
+use Rattle.strlib.specs.Pointer.{pointer, sized, goodIn, textOf}
+use Rattle.strlib.specs.declared.StrPtr.{StrPtr}
+use Rattle.cutting.proofs.Bounding.{trimmed-none, trimmed-some}
+use Rattle.cutting.proofs.Goodness.{part-good}
+use Rattle.cutting.specs.Cutting.{blanks, trimmed, inBounds, cutOf, Cuttable}
+use Rattle.cutting.specs.Part.{IsPart, whole, sliceCut, shown}
+use Rattle.cutting.specs.declared.Cut.{Cut}
+use Rattle.cutting.specs.declared.Cut.the-variants.{Trimmed}
+
+whole-good : (xs : List ℕ) → goodIn (length xs) (whole xs) ≡ true
+unfolding whole pointer
+whole-good xs = is-good (length xs) (whole xs) (omega arith) (omega arith)
+
+module _ (xs : List ℕ) (c : Cut) (w : StrPtr) (e : w ≡ pointer 0 (length xs) (length xs)) (b : Bool) (f : b ≡ inBounds w c) where
+  is-whole : w ≡ whole xs
+  unfolding whole
+  is-whole = e
+
+  pub slice-ready : length xs * 1 < 2 ^ 63 → b ≡ true → Cuttable w c
+  unfolding pointer
+  slice-ready h t =
+      record {
+        room = rw e (omega arith);
+        end = rw e (omega arith);
+        bounds = sym f ∙ t;
+      }
+
+  pub slice-within : (q : StrPtr) → b ≡ true → q ≡ cutOf xs w c → q .start + q .length ≤ length xs
+  slice-within q t h =
+      let g : goodIn (length xs) q ≡ true = rw (h, is-whole) (part-good xs (whole xs) c (whole-good xs) (rw is-whole at (sym f ∙ t))) in
+      omega (arith, good-is (length xs) q g)
+
+  pub slice-cut : (q : StrPtr) → b ≡ true → q ≡ cutOf xs w c → q ≡ sliceCut xs c
+  unfolding sliceCut
+  slice-cut q t h = rw (← is-whole, ← f, t) h
+
+  pub slice-none : (q : StrPtr) → b ≡ false → q ≡ pointer 0 0 0 → q ≡ sliceCut xs c
+  unfolding sliceCut
+  slice-none q t h = rw (← is-whole, ← f, t) h
+
+pub empty-within : (xs : List ℕ) (q : StrPtr) → q ≡ pointer 0 0 0 → q .start + q .length ≤ length xs
+unfolding pointer
+empty-within xs q h = rw h (omega arith)
+
+pub part-is : (r s : RefT (List ℕ)) (p q : StrPtr) → IsPart r s p → p ≡ q → IsPart r s q
+part-is r s p q h e = rw e at h
+
+pub ruleset slice-laws = (needs, slice-ready, slice-within, slice-cut, slice-none, empty-within, part-is)
+
+-- ---- the desk label
+
+whole-text : (xs : List ℕ) → textOf xs (whole xs) ≡ xs
+unfolding textOf whole pointer
+whole-text xs = take-length xs
+
+trim-length : (xs : List ℕ) → length (textOf xs (sliceCut xs Trimmed)) ≡ trimmed xs
+unfolding sliceCut inBounds cutOf sized
+trim-length xs = text-length xs (cutOf xs (whole xs) Trimmed) (part-good xs (whole xs) Trimmed (whole-good xs) refl) ∙ ap trimmed (whole-text xs)
+
+-- the label's own length tells whether the production name is blank
+module _ (q production house : RefT (List ℕ)) (p : IsPart q production (sliceCut (now production) Trimmed)) where
+  left : length (now q) ≡ trimmed (now production)
+  left = ap length (p .bytes) ∙ trim-length (now production)
+
+  pub label-house : (r : RefT (List ℕ)) → length (now q) ≡ 0 → IsPart r house (sliceCut (now house) Trimmed)
+      → IsPart r (shown production house) (sliceCut (now (shown production house)) Trimmed)
+  unfolding shown
+  label-house r z h = rw (trimmed-none (now production) (sym left ∙ z)) h
+
+  pub label-production : (length (now q) ≡ 0 → ⊥) → IsPart q (shown production house) (sliceCut (now (shown production house)) Trimmed)
+  unfolding shown
+  label-production z = rw (trimmed-some (now production) (λ (n : trimmed (now production) ≡ 0). z (left ∙ n))) p
+
+pub ruleset label-laws = (needs, label-house, label-production)

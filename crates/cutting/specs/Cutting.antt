@@ -1,0 +1,72 @@
+-- The four cuts: 01, "Cutting". Assumes nothing.
+use Prim.Native.Nat.{ℕ, suc, _+_, _-_, _≤_, _<_}
+use mathlib.Core.Path.{_≡_}
+use mathlib.Core.Bool.{Bool, true, cond, _&&_}
+use mathlib.Core.List.{List, [], _∷_}
+use lib.Dec.{leb, eqb}
+use lib.ListN.{length}
+use Rattle.strlib.specs.Pointer.{sized, partOf, storeFits, goodIn, textOf, all, readable}
+use Rattle.strlib.specs.Refusal.{Outcome, first, outcome}
+use Rattle.strlib.specs.declared.StrPtr.{StrPtr}
+use Rattle.cutting.specs.declared.Cut.{Cut}
+use Rattle.cutting.specs.declared.Cut.the-variants.{Relative, Counted, Between, Trimmed}
+
+-- a blank is 32
+unfoldable pub blanks : List ℕ → Bool
+blanks xs = all (λ x. eqb x 32) xs
+
+-- the length that is left once trailing blanks are dropped
+unfoldable pub trimmed : List ℕ → ℕ
+trimmed [] = 0
+trimmed (x ∷ xs) = cond (blanks (x ∷ xs)) 0 (suc (trimmed xs))
+
+-- pos2 = 0 means length + 1
+unfoldable pub second : ℕ → ℕ → ℕ
+second length pos2 = cond (eqb pos2 0) (length + 1) pos2
+
+-- 1 ≤ p ≤ maximum + 1 and n ≤ maximum − p + 1
+unfoldable pub countedIn : ℕ → ℕ → ℕ → Bool
+countedIn maximum p n = (leb 1 p && leb p (maximum + 1)) && leb n (maximum + 1 - p)
+
+-- 1 ≤ pos1 ≤ pos2 ≤ length + 1
+unfoldable pub betweenIn : ℕ → ℕ → ℕ → Bool
+betweenIn length pos1 pos2 = (leb 1 pos1 && leb pos1 (second length pos2)) && leb (second length pos2) (length + 1)
+
+-- the bounds of each cut, and the part that it gives
+unfoldable pub inBounds : StrPtr → Cut → Bool
+inBounds p (Relative a) = leb a (p .length)
+inBounds p (Counted at n) = countedIn (p .maximum) at n
+inBounds p (Between pos1 pos2) = betweenIn (p .length) pos1 pos2
+inBounds p Trimmed = true
+
+unfoldable pub cutOf : List ℕ → StrPtr → Cut → StrPtr
+cutOf s p (Relative a) = partOf p a (p .length - a) (p .maximum - a)
+cutOf s p (Counted at n) = partOf p (at - 1) n (p .maximum + 1 - at)
+cutOf s p (Between pos1 pos2) = partOf p (pos1 - 1) (second (p .length) pos2 - pos1) (p .length + 1 - pos1)
+cutOf s p Trimmed = sized p (trimmed (textOf s p))
+
+-- only trimming reads the string
+unfoldable pub cutReads : List ℕ → StrPtr → Cut → Bool
+cutReads s p (Relative a) = true
+cutReads s p (Counted at n) = true
+cutReads s p (Between pos1 pos2) = true
+cutReads s p Trimmed = readable s p
+
+abbrev pub cutChecks : List ℕ → StrPtr → Cut → List (ℕ × Bool)
+cutChecks s p c = (3, storeFits s) ∷ (1, goodIn (length s) p) ∷ (2, cutReads s p c) ∷ (4, inBounds p c) ∷ []
+
+unfoldable pub cutRefusal : List ℕ → StrPtr → Cut → ℕ
+cutRefusal s p c = first (cutChecks s p c)
+
+unfoldable pub cutRule : List ℕ → StrPtr → Cut → Outcome StrPtr
+cutRule s p c = outcome (cutRefusal s p c) (cutOf s p c)
+
+-- what the code asks before it cuts: the room is in order, its end is a number that the machine has, and the bounds hold
+pub record Cuttable (p : StrPtr) (c : Cut) : Type 0 where
+  pub room : p .length ≤ p .maximum
+  pub end : p .start + p .maximum < 9223372036854775808
+  pub bounds : inBounds p c ≡ true
+
+pub record Inside (p : StrPtr) (skip : ℕ) : Type 0 where
+  pub within : skip ≤ p .maximum
+  pub end : p .start + p .maximum < 9223372036854775808

@@ -1,0 +1,64 @@
+// Read-only cuts: parts of the caller's slice itself, of any bytes and any length.
+use super::Cut;
+use super::bounds;
+use strlib::StrPtr;
+ghost use mathlib.Core.Path.{_≡_};
+ghost use Prim.Native.Nat.{_+_, _≤_};
+ghost use lib.ListN.{length};
+ghost use Rattle.strlib.specs.Pointer.{pointer};
+ghost use Rattle.cutting.specs.Part.{IsPart, sliceCut, shown};
+ghost use Rattle.cutting.specs.declared.Cut.the-variants.{Relative, Counted, Between, Trimmed};
+
+fn part(bytes: &[u8], p: StrPtr) -> &[u8]
+    requires { ⌜ p .start + p .length ≤ length (now bytes) ⌝ }
+    ensures { λ r. ⌜ IsPart r (bytes .entry) p ⌝ }
+{
+    let a = p.start;
+    let e = a + p.length;
+    &bytes[a..e]
+}
+
+fn cut_slice(bytes: &[u8], cut: Cut) -> &[u8]
+    ensures { λ r. ⌜ IsPart r (bytes .entry) (sliceCut (now (bytes .entry)) cut) ⌝ }
+{
+    let whole = StrPtr::full(0, bytes.len());
+    if bounds::in_bounds(whole, cut) {
+        return part(bytes, super::cut_of(bytes, whole, cut));
+    }
+    part(bytes, StrPtr::full(0, 0))
+}
+
+pub fn relative_part(bytes: &[u8], offset: usize) -> &[u8]
+    ensures { λ r. ⌜ IsPart r (bytes .entry) (sliceCut (now (bytes .entry)) (Relative offset)) ⌝ }
+{
+    cut_slice(bytes, Cut::Relative(offset))
+}
+
+pub fn counted_part(bytes: &[u8], position: usize, count: usize) -> &[u8]
+    ensures { λ r. ⌜ IsPart r (bytes .entry) (sliceCut (now (bytes .entry)) (Counted position count)) ⌝ }
+{
+    cut_slice(bytes, Cut::Counted(position, count))
+}
+
+pub fn between_part(bytes: &[u8], pos1: usize, pos2: usize) -> &[u8]
+    ensures { λ r. ⌜ IsPart r (bytes .entry) (sliceCut (now (bytes .entry)) (Between pos1 pos2)) ⌝ }
+{
+    cut_slice(bytes, Cut::Between(pos1, pos2))
+}
+
+pub fn trimmed_part(bytes: &[u8]) -> &[u8]
+    ensures { λ r. ⌜ IsPart r (bytes .entry) (sliceCut (now (bytes .entry)) Trimmed) ⌝ }
+{
+    cut_slice(bytes, Cut::Trimmed)
+}
+
+// The label shown on the desk: the trimmed production name, or where that is blank or empty the trimmed house name.
+pub fn desk_label<'a>(production: &'a [u8], house: &'a [u8]) -> &'a [u8]
+    ensures { λ r. ⌜ IsPart r (shown (production .entry) (house .entry)) (sliceCut (now (shown (production .entry) (house .entry))) Trimmed) ⌝ }
+{
+    let label = trimmed_part(production);
+    if label.len() == 0 {
+        return trimmed_part(house);
+    }
+    label
+}

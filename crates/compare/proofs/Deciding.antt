@@ -4,7 +4,8 @@ use mathlib.Core.Path.{_≡_, refl, sym, ap, _∙_}
 use mathlib.Core.Bool.{Bool, true, false, cond, not, _&&_}
 use mathlib.Core.List.{List, [], _∷_}
 use Prim.Native.Nat.{ℕ, zero, suc, _+_, _-_, _≤_, _<_, _*_, _^_, min, max}
-use native.Mathlib.Nat.{not-suc-le-zero, le-of-suc-le-suc}
+use native.Mathlib.Nat.{not-suc-le-zero, le-of-suc-le-suc, zero-add}
+use native.Mathlib.Numerals.{add-one}
 use native.Mathlib.Omega.{arith}
 use lib.Dec.{eqb, ltb}
 use lib.IntN.{ℤ, pos, _+ℤ_}
@@ -12,10 +13,11 @@ use lib.ListN.{length, getD, List·getD-eq-default}
 use lib.Signed.{ltZ}
 use mir.Syntax.{w64}
 use mir.Val.{Fits}
+use borrow.Author.Count.{below-more}
 use borrow.Author.Needs.{needs}
-use borrow.Author.Tests.{ltb-true, ltb-false, eq-eqb, ne-eqb, lt-ltb, le-ltb}
+use borrow.Author.Tests.{ltb-true, ltb-false, eqb-true, eqb-false, eq-eqb, ne-eqb, lt-ltb, le-ltb}
 use Rattle.compare.specs.Order.{orderZ, orderN}
-use Rattle.compare.specs.Compare.{pairs, lengthDecides, translated, orderAt, unequalFrom, decided, decision}
+use Rattle.compare.specs.Compare.{pairs, lengthDecides, translated, orderAt, unequalFrom, FirstUnequal, decided, decision}
 use Rattle.compare.specs.declared.Decision.{Decision}
 
 getD-any : (l : List ℕ) (i d e : ℕ) → i < length l → getD l i d ≡ getD l i e
@@ -90,6 +92,20 @@ module _ (x y : List ℕ) (t : ℤ) (n i : ℕ) (e : unequalFrom x y t 0 n ≡ u
   pub unequal-end : (t′ : ℤ) → n ≤ i → t ≡ t′ → i ≡ unequalFrom x y t′ 0 n
   unfolding unequalFrom
   unequal-end t′ h r = let k : n - i ≡ 0 = omega arith in rw (← r) (sym (e ∙ rw k))
+
+-- it is the first unequal pair indeed
+from-is : (x y : List ℕ) (t : ℤ) (i k : ℕ) → ((j : ℕ) → j < i → orderAt x y t j ≡ 1) → FirstUnequal x y t (i + k) (unequalFrom x y t i k)
+unfolding unequalFrom
+from-is x y t i zero h = record { within = omega arith; equal = h; unequal = λ l e. omega arith }
+from-is x y t i (suc k) h = go (eqb (orderAt x y t i) 1) refl (λ e. from-is x y t (suc i) k (rw add-one at (below-more (λ (j : ℕ). orderAt x y t j ≡ 1) i h e)))
+  where
+    go : (b : Bool) → eqb (orderAt x y t i) 1 ≡ b → (orderAt x y t i ≡ 1 → FirstUnequal x y t (suc i + k) (unequalFrom x y t (suc i) k))
+        → FirstUnequal x y t (i + suc k) (cond b (unequalFrom x y t (suc i) k) i)
+    go true e f = let j : i + suc k ≡ suc i + k = omega arith in rw j (f (eqb-true (orderAt x y t i) 1 e))
+    go false e f = record { within = omega arith; equal = h; unequal = λ l. eqb-false (orderAt x y t i) 1 e }
+
+pub first-unequal-is : (x y : List ℕ) (t : ℤ) (n : ℕ) → FirstUnequal x y t n (unequalFrom x y t 0 n)
+first-unequal-is x y t n = rw zero-add at (from-is x y t 0 n (λ j l. absurd (omega arith)))
 
 -- ---- the decision
 

@@ -1,5 +1,5 @@
 -- Comparing: 01, "Comparing". Assumes nothing.
-use Prim.Native.Nat.{ℕ, zero, suc, _+_, _<_, min, max}
+use Prim.Native.Nat.{ℕ, zero, suc, _+_, _≤_, _<_, min, max}
 use mathlib.Core.Path.{_≡_}
 use mathlib.Core.Bool.{Bool, true, cond, not, _&&_}
 use mathlib.Core.List.{List, [], _∷_}
@@ -50,6 +50,12 @@ orderAt xs ys t i = orderZ (pos (getD xs i 32)) (translated ys t i)
 unfoldable pub unequalFrom : List ℕ → List ℕ → ℤ → ℕ → ℕ → ℕ
 unequalFrom xs ys t i zero = i
 unequalFrom xs ys t i (suc k) = cond (eqb (orderAt xs ys t i) 1) (unequalFrom xs ys t (suc i) k) i
+
+-- the same in plain words: of n pairs all before index d are equal, and the one at d, where there is one, is not
+pub record FirstUnequal (xs ys : List ℕ) (t : ℤ) (n d : ℕ) : Type 0 where
+  pub within : d ≤ n
+  pub equal : (i : ℕ) → i < d → orderAt xs ys t i ≡ 1
+  pub unequal : d < n → orderAt xs ys t d ≡ 1 → ⊥
 
 -- what decides, where the first unequal pair of n has the index d: that pair, or exact style's length rule, or nothing
 unfoldable pub decided : List ℕ → List ℕ → ℕ → ℤ → ℕ → ℕ → Decision

@@ -76,22 +76,14 @@ impl StrPtr {
     pub fn full(start: usize, length: usize) -> Self
         ensures { λ r. ⌜ r ≡ pointer start length length ⌝ }
     {
-        Self {
-            start,
-            length,
-            maximum: length,
-        }
+        Self::new(start, length, length)
     }
 
     // The same room with another length.
     pub fn sized(self, length: usize) -> Self
         ensures { λ r. ⌜ r ≡ sized self length ⌝ }
     {
-        Self {
-            start: self.start,
-            length,
-            maximum: self.maximum,
-        }
+        Self::new(self.start, length, self.maximum)
     }
 
     // Whether the pointer is good for a store of n bytes.

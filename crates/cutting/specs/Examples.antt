@@ -1,0 +1,73 @@
+-- Worked cuts, as one claim on the definitions. Assumes nothing.
+use Prim.Native.Nat.{ℕ, zero, suc, _+_, _-_}
+use mathlib.Core.Path.{_≡_, refl}
+use mathlib.Core.List.{List, [], _∷_}
+use Rattle.strlib.specs.Pointer.{pointer, sized, partOf, storeFits, goodIn, textOf, all, characters, readable}
+use Rattle.strlib.specs.Refusal.{refused, gives, outcome}
+use Rattle.strlib.specs.declared.StrPtr.{StrPtr}
+use Rattle.cutting.specs.Cutting.{blanks, trimmed, second, countedIn, betweenIn, inBounds, cutOf, cutReads, cutRefusal, cutRule}
+use Rattle.cutting.specs.Part.{whole, sliceCut}
+use Rattle.cutting.specs.declared.Cut.the-variants.{Relative, Counted, Between, Trimmed}
+
+-- LSP 31, then two blanks, then a byte that is no character
+abbrev pub store : List ℕ
+store = 76 ∷ 83 ∷ 80 ∷ 32 ∷ 51 ∷ 49 ∷ 32 ∷ 32 ∷ 200 ∷ []
+
+-- its eight characters, in a room of nine
+abbrev pub label : StrPtr
+label = pointer 0 8 9
+
+pub record Examples : Type 0 where
+  pub relative : cutRule store label (Relative 4) ≡ gives (pointer 4 4 5)
+  -- an offset of the whole length is the empty string at the end; one more is refused
+  pub at-end : cutRule store label (Relative 8) ≡ gives (pointer 8 0 1)
+  pub past-end : cutRule store label (Relative 9) ≡ refused 4
+  -- the loudspeaker's number, and not one character more
+  pub counted : cutRule store label (Counted 5 2) ≡ gives (pointer 4 2 5)
+  -- a count may reach past the length, up to the maximum
+  pub to-maximum : cutRule store label (Counted 1 9) ≡ gives (pointer 0 9 9)
+  pub over-maximum : cutRule store label (Counted 1 10) ≡ refused 4
+  pub position-zero : cutRule store label (Counted 0 1) ≡ refused 4
+  -- the maximum of a part between positions ends with the length
+  pub between : cutRule store label (Between 5 7) ≡ gives (pointer 4 2 4)
+  pub between-open : cutRule store label (Between 5 0) ≡ gives (pointer 4 4 4)
+  pub between-end : cutRule store label (Between 9 9) ≡ gives (pointer 8 0 0)
+  pub between-past : cutRule store label (Between 5 10) ≡ refused 4
+  pub between-turned : cutRule store label (Between 5 4) ≡ refused 4
+  pub trimmed : cutRule store label Trimmed ≡ gives (pointer 0 6 9)
+  -- trimming reads the string, the other cuts do not
+  pub trim-reads : cutRule store (pointer 0 9 9) Trimmed ≡ refused 2
+  pub cut-reads-not : cutRule store (pointer 0 9 9) (Relative 8) ≡ gives (pointer 8 1 1)
+  -- 1 goes before 4; a sum over 2^64 is no good pointer, though its remainder would be
+  pub bad-pointer : cutRule store (pointer 1 8 9) (Relative 9) ≡ refused 1
+  pub no-wrap : cutRule store (pointer 18446744073709551615 1 1) (Relative 0) ≡ refused 1
+  -- of a slice, bad positions give the empty part at the front, and a good empty part lies where it was cut
+  pub slice-bad : sliceCut store (Counted 9 2) ≡ pointer 0 0 0
+  pub slice-end : sliceCut store (Relative 9) ≡ pointer 9 0 0
+
+pub examples : Examples
+unfolding
+    pointer sized partOf storeFits goodIn textOf all characters readable outcome blanks trimmed second countedIn betweenIn inBounds cutOf cutReads cutRefusal
+    cutRule whole sliceCut
+examples =
+    record {
+      relative = refl;
+      at-end = refl;
+      past-end = refl;
+      counted = refl;
+      to-maximum = refl;
+      over-maximum = refl;
+      position-zero = refl;
+      between = refl;
+      between-open = refl;
+      between-end = refl;
+      between-past = refl;
+      between-turned = refl;
+      trimmed = refl;
+      trim-reads = refl;
+      cut-reads-not = refl;
+      bad-pointer = refl;
+      no-wrap = refl;
+      slice-bad = refl;
+      slice-end = refl;
+    }

@@ -22,6 +22,10 @@ whole-good : (xs : List ℕ) → goodIn (length xs) (whole xs) ≡ true
 unfolding whole pointer
 whole-good xs = is-good (length xs) (whole xs) (omega arith) (omega arith)
 
+none-good : (xs : List ℕ) → goodIn (length xs) (pointer 0 0 0) ≡ true
+unfolding pointer
+none-good xs = is-good (length xs) (pointer 0 0 0) (omega arith) (omega arith)
+
 module _ (xs : List ℕ) (c : Cut) (w : StrPtr) (e : w ≡ pointer 0 (length xs) (length xs)) (b : Bool) (f : b ≡ inBounds w c) where
   is-whole : w ≡ whole xs
   unfolding whole
@@ -36,11 +40,6 @@ module _ (xs : List ℕ) (c : Cut) (w : StrPtr) (e : w ≡ pointer 0 (length xs)
         bounds = sym f ∙ t;
       }
 
-  pub slice-within : (q : StrPtr) → b ≡ true → q ≡ cutOf xs w c → q .start + q .length ≤ length xs
-  slice-within q t h =
-      let g : goodIn (length xs) q ≡ true = rw (h, is-whole) (part-good xs (whole xs) c (whole-good xs) (rw is-whole at (sym f ∙ t))) in
-      omega (arith, good-is (length xs) q g)
-
   pub slice-cut : (q : StrPtr) → b ≡ true → q ≡ cutOf xs w c → q ≡ sliceCut xs c
   unfolding sliceCut
   slice-cut q t h = rw (← is-whole, ← f, t) h
@@ -49,14 +48,21 @@ module _ (xs : List ℕ) (c : Cut) (w : StrPtr) (e : w ≡ pointer 0 (length xs)
   unfolding sliceCut
   slice-none q t h = rw (← is-whole, ← f, t) h
 
-pub empty-within : (xs : List ℕ) (q : StrPtr) → q ≡ pointer 0 0 0 → q .start + q .length ≤ length xs
-unfolding pointer
-empty-within xs q h = rw h (omega arith)
+slice-good : (xs : List ℕ) (c : Cut) → goodIn (length xs) (sliceCut xs c) ≡ true
+unfolding sliceCut
+slice-good xs c = go (inBounds (whole xs) c) refl
+  where
+    go : (b : Bool) → inBounds (whole xs) c ≡ b → goodIn (length xs) (cond b (cutOf xs (whole xs) c) (pointer 0 0 0)) ≡ true
+    go true e = part-good xs (whole xs) c (whole-good xs) e
+    go false e = none-good xs
+
+pub slice-within : (xs : List ℕ) (c : Cut) (q : StrPtr) → q ≡ sliceCut xs c → q .start + q .length ≤ length xs
+slice-within xs c q h = let g : goodIn (length xs) q ≡ true = rw h (slice-good xs c) in omega (arith, good-is (length xs) q g)
 
 pub part-is : (r s : RefT (List ℕ)) (p q : StrPtr) → IsPart r s p → p ≡ q → IsPart r s q
 part-is r s p q h e = rw e at h
 
-pub ruleset slice-laws = (needs, slice-ready, slice-within, slice-cut, slice-none, empty-within, part-is)
+pub ruleset slice-laws = (needs, slice-ready, slice-cut, slice-none, slice-within, part-is)
 
 -- ---- the desk label
 

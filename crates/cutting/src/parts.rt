@@ -18,14 +18,21 @@ fn part(bytes: &[u8], p: StrPtr) -> &[u8]
     &bytes[a..e]
 }
 
-fn cut_slice(bytes: &[u8], cut: Cut) -> &[u8]
-    ensures { λ r. ⌜ IsPart r (bytes .entry) (sliceCut (now (bytes .entry)) cut) ⌝ }
+// Where a cut lies in a slice, which is cut as the string that it is whole.
+fn place_of(bytes: &[u8], cut: Cut) -> StrPtr
+    ensures { λ r. ⌜ r ≡ sliceCut (now (bytes .entry)) cut ⌝ }
 {
     let whole = StrPtr::full(0, bytes.len());
     if bounds::in_bounds(whole, cut) {
-        return part(bytes, super::cut_of(bytes, whole, cut));
+        return super::cut_of(bytes, whole, cut);
     }
-    part(bytes, StrPtr::full(0, 0))
+    StrPtr::full(0, 0)
+}
+
+fn cut_slice(bytes: &[u8], cut: Cut) -> &[u8]
+    ensures { λ r. ⌜ IsPart r (bytes .entry) (sliceCut (now (bytes .entry)) cut) ⌝ }
+{
+    part(bytes, place_of(bytes, cut))
 }
 
 pub fn relative_part(bytes: &[u8], offset: usize) -> &[u8]

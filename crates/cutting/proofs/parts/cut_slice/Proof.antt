@@ -7,10 +7,5 @@ cut-slice-spec =
     tie.close
     (tie.spec
     (λ c κs. tt)
-    (λ c κs. tt)
-    (λ c κs. search slice-laws)
-    (λ c κs. search slice-laws)
-    (λ c. search slice-laws)
-    (λ c κs. tt)
     (λ c κs. search slice-laws)
     (λ c. search slice-laws))

@@ -29,6 +29,11 @@ goodIn n p = leb (p .length) (p .maximum) && leb (p .start + p .maximum) n
 unfoldable pub textOf : List ℕ → StrPtr → List ℕ
 textOf s p = take (p .length) (drop (p .start) s)
 
+-- the characters of listed strings, string by string
+unfoldable pub texts : List ℕ → List StrPtr → List (List ℕ)
+texts s [] = []
+texts s (p ∷ ps) = textOf s p ∷ texts s ps
+
 -- f holds of each element
 unfoldable pub all : {A : Type 0} → (A → Bool) → List A → Bool
 all f [] = true

@@ -1,0 +1,4 @@
+pub mod Search
+pub mod Occurrence
+pub mod Rule
+pub mod Examples

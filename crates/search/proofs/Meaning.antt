@@ -6,35 +6,11 @@ use mathlib.Core.Bool.{Bool, true, false, _&&_, true≢false, false≢true}
 use mathlib.Core.List.{List, [], _∷_}
 use mathlib.Core.Logic.{_⊎_, inl, inr, ⊎-elim}
 use native.Mathlib.Omega.{arith}
-use lib.Dec.{eqb}
 use lib.ListN.{length, take, drop, getD}
 use lib.Seq.{drop-nil}
-use borrow.Author.Tests.{eqb-true, eq-eqb}
-use Rattle.strlib.proofs.Refusing.{and-both}
+use Rattle.search.proofs.Prefixes.{prefix-stands, stands-prefix}
 use Rattle.search.specs.Search.{isPrefix, firstNumber, closed, lengthOf, Result, nothing, found, onward, atFront, plainSearch}
 use Rattle.search.specs.Occurrence.{occursAt, stringOf, listedAt, Earliest, Nowhere, Law}
-
--- ---- a prefix is what stands at the front
-
-pub prefix-stands : (s h : List ℕ) → isPrefix s h ≡ true → take (length s) h ≡ s
-prefix-stands [] h e = refl
-prefix-stands (x ∷ s) [] e = absurd (false≢true e)
-prefix-stands (x ∷ s) (y ∷ h) e =
-    let b = and-both (eqb x y) (isPrefix s h) e in
-    rw (eqb-true x y (b .0), prefix-stands s h (b .1))
-
-pub stands-prefix : (s h : List ℕ) → take (length s) h ≡ s → isPrefix s h ≡ true
-stands-prefix [] h e = refl
-stands-prefix (x ∷ s) [] e = let z : _≡_ {A = ℕ} 0 1 = cc in absurd (omega arith)
-stands-prefix (x ∷ s) (y ∷ h) e =
-    let a : x ≡ y = cc in
-    let b : take (length s) h ≡ s = cc in
-    rw (eq-eqb x y a) (stands-prefix s h b)
-
-pub prefix-length : (s h : List ℕ) → isPrefix s h ≡ true → length s ≤ length h
-prefix-length [] h e = omega arith
-prefix-length (x ∷ s) [] e = absurd (false≢true e)
-prefix-length (x ∷ s) (y ∷ h) e = omega (arith, prefix-length s h (and-both (eqb x y) (isPrefix s h) e .1))
 
 -- ---- the first listed string that is a prefix
 

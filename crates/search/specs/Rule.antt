@@ -1,5 +1,5 @@
 -- What a search answers: 01, "Searching". Assumes nothing.
-use Prim.Native.Nat.{ℕ, _+_, _-_, _≤_}
+use Prim.Native.Nat.{ℕ, zero, suc, _+_, _-_}
 use mathlib.Core.Bool.{Bool}
 use mathlib.Core.List.{List, [], _∷_}
 use lib.Dec.{leb}
@@ -30,6 +30,11 @@ searchRefusal s host list count = first (searchChecks s host list count)
 -- the plain search for the listed strings among the host's characters
 unfoldable pub sought : List ℕ → StrPtr → List StrPtr → Result
 sought s host list = plainSearch (texts s list) (textOf s host)
+
+-- a place as the code holds it, with number 0 for nothing
+unfoldable pub placed : ℕ → ℕ → ℕ → Result
+placed zero pos1 pos2 = nothing
+placed (suc j) pos1 pos2 = found (suc j) pos1 pos2
 
 -- before, match and after: the first two have maximum = length, the third keeps what is left of the host's maximum
 unfoldable pub partsOf : StrPtr → ℕ → ℕ → ℕ → Match

@@ -1,4 +1,6 @@
 // Plain parallel search: the earliest position at which a listed string occurs, and of those that occur there the first listed.
+mod find;
+
 use strlib::StrPtr;
 
 // String `number` of the list was found: what lies before it, the match, and what lies after it.

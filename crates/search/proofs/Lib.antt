@@ -1,3 +1,4 @@
 pub mod Prefixes
 pub mod Meaning
 pub mod Finding
+pub mod Answering

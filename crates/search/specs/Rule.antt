@@ -8,6 +8,8 @@ use Rattle.strlib.specs.Pointer.{partOf, storeFits, goodIn, textOf, texts, all,
 use Rattle.strlib.specs.Refusal.{Outcome, refused, gives, first, outcome}
 use Rattle.strlib.specs.declared.StrPtr.{StrPtr}
 use Rattle.search.specs.Search.{Result, nothing, found, plainSearch}
+use Rattle.search.specs.declared.find.Finding.{Finding}
+use Rattle.search.specs.declared.find.Finding.the-variants.{Found as FoundAt, Nothing as FoundNothing, Refused as FoundRefused}
 use Rattle.search.specs.declared.Match.{Match}
 use Rattle.search.specs.declared.Split.{Split}
 use Rattle.search.specs.declared.SearchAnswer.{SearchAnswer}
@@ -15,13 +17,9 @@ use Rattle.search.specs.declared.SearchAnswer.the-variants.{Found, Nothi
 use Rattle.search.specs.declared.SplitAnswer.{SplitAnswer}
 use Rattle.search.specs.declared.SplitAnswer.the-variants.{Found as SplitFound, Nothing as SplitNothing, Refused as SplitRefused}
 
--- a count is at most 32
-unfoldable pub countFits : ℕ → Bool
-countFits count = leb count 32
-
 abbrev pub searchChecks : List ℕ → StrPtr → List StrPtr → ℕ → List (ℕ × Bool)
 searchChecks s host list count =
-    (3, storeFits s) ∷ (3, countFits count) ∷ (1, goodIn (length s) host) ∷ (1, all (goodIn (length s)) (take count list))
+    (3, storeFits s) ∷ (3, leb count 32) ∷ (1, goodIn (length s) host) ∷ (1, all (goodIn (length s)) (take count list))
     ∷ (2, readable s host) ∷ (2, all (readable s) (take count list)) ∷ []
 
 unfoldable pub searchRefusal : List ℕ → StrPtr → List StrPtr → ℕ → ℕ
@@ -87,3 +85,8 @@ abbrev pub splitted : SplitAnswer → Outcome (Sought Split)
 splitted (SplitFound m) = gives (at m)
 splitted SplitNothing = gives nowhere
 splitted (SplitRefused n) = refused n
+
+abbrev pub findingOf : Finding → Outcome Result
+findingOf (FoundAt p) = gives (found (p .number) (p .pos1) (p .pos2))
+findingOf FoundNothing = gives nothing
+findingOf (FoundRefused n) = refused n

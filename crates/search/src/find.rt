@@ -1,17 +1,25 @@
 // Where a listed string is found in a host.
 use strlib::StrList;
+use strlib::StrPtr;
 ghost use mathlib.Core.Path.{_≡_};
 ghost use Prim.Native.Nat.{_≤_};
 ghost use lib.ListN.{take};
 ghost use Rattle.strlib.specs.Pointer.{texts};
 ghost use Rattle.search.specs.Search.{isPrefix, plainSearch};
-ghost use Rattle.search.specs.Rule.{placed};
+ghost use Rattle.strlib.specs.Refusal.{outcome};
+ghost use Rattle.search.specs.Rule.{placed, searchRefusal, sought, findingOf};
 
 // String `number` of the list stands from pos1 to pos2; number 0 for none.
 pub struct Place {
     pub number: usize,
     pub pos1: usize,
     pub pos2: usize,
+}
+
+pub enum Finding {
+    Found(Place),
+    Nothing,
+    Refused(u8),
 }
 
 // Whether the characters of a string stand at the front of a text.
@@ -58,4 +66,31 @@ fn find(store: &[u8], text: &[u8], list: StrList, count: usize) -> Place
         pos1: skipped + 1,
         pos2,
     }
+}
+
+fn search_refusal(store: &[u8], host: StrPtr, list: StrList, count: usize) -> u8
+    ensures { λ r. ⌜ r ≡ searchRefusal (now (store .entry)) host list count ⌝ }
+{
+    let n = store.len();
+    let found = strlib::check_store(store);
+    let found = strlib::check(found, 3, count <= StrPtr::LIST_MAX);
+    let found = strlib::check_good(found, n, host);
+    let found = strlib::check_all_good(found, n, list, count);
+    let found = strlib::check_readable(found, store, host);
+    strlib::check_all_readable(found, store, list, count)
+}
+
+// The search that every call makes: it gives positions, which a call turns into pointers.
+pub fn find_listed(store: &[u8], host: StrPtr, list: StrList, count: usize) -> Finding
+    ensures { λ r. ⌜ findingOf r ≡ outcome (searchRefusal (now (store .entry)) host list count) (sought (now (store .entry)) host (take count list)) ⌝ }
+{
+    let found = search_refusal(store, host, list, count);
+    if found != 0 {
+        return Finding::Refused(found);
+    }
+    let place = find(store, strlib::text(store, host), list, count);
+    if place.number == 0 {
+        return Finding::Nothing;
+    }
+    Finding::Found(place)
 }

@@ -2,3 +2,4 @@ pub mod Prefixes
 pub mod Meaning
 pub mod Finding
 pub mod Answering
+pub mod Goodness

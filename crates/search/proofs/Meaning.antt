@@ -10,7 +10,7 @@ use lib.ListN.{length, take, drop, getD}
 use lib.Seq.{drop-nil}
 use Rattle.search.proofs.Prefixes.{prefix-stands, stands-prefix}
 use Rattle.search.specs.Search.{isPrefix, firstNumber, closed, lengthOf, Result, nothing, found, onward, atFront, plainSearch}
-use Rattle.search.specs.Occurrence.{occursAt, stringOf, listedAt, Earliest, Nowhere, Law}
+use Rattle.search.specs.Occurrence.{occursAt, stringOf, listedAt, Earliest, Nowhere, SearchLaw}
 
 -- ---- the first listed string that is a prefix
 
@@ -154,7 +154,7 @@ module _ (ss : List (List ℕ)) (h : List ℕ) where
       let z : e ≡ e′ = a .ends ∙ rw (x, y) (sym (b .ends)) in
       rw (x, y, z)
 
-  pub search-law : Law ss h
+  pub search-law : SearchLaw ss h
   search-law =
       record {
         found-is = λ j p e q. earliest (rw q at (best ss h));

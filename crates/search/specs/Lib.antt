@@ -1,4 +1,5 @@
 pub mod Search
 pub mod Occurrence
 pub mod Rule
+pub mod Whole
 pub mod Examples

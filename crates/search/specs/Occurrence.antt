@@ -34,7 +34,7 @@ abbrev pub Nowhere : List (List ℕ) → List ℕ → Type 0
 Nowhere ss host = (j p : ℕ) → listedAt ss host j p → ⊥
 
 -- the law of the search, each answer both ways
-pub record Law (ss : List (List ℕ)) (host : List ℕ) : Type 0 where
+pub record SearchLaw (ss : List (List ℕ)) (host : List ℕ) : Type 0 where
   pub found-is : (j pos1 pos2 : ℕ) → plainSearch ss host ≡ found j pos1 pos2 → Earliest ss host j pos1 pos2
   pub is-found : (j pos1 pos2 : ℕ) → Earliest ss host j pos1 pos2 → plainSearch ss host ≡ found j pos1 pos2
   pub nothing-is : plainSearch ss host ≡ nothing → Nowhere ss host

@@ -1,5 +1,5 @@
 -- What a search answers: 01, "Searching". Assumes nothing.
-use Prim.Native.Nat.{ℕ, zero, suc, _+_, _-_}
+use Prim.Native.Nat.{ℕ, zero, suc, _+_, _-_, _≤_}
 use mathlib.Core.Bool.{Bool}
 use mathlib.Core.List.{List, [], _∷_}
 use lib.Dec.{leb}
@@ -62,29 +62,39 @@ unfoldable pub given : {A : Type 0} → (ℕ → ℕ → ℕ → A) → Result �
 given f nothing = nowhere
 given f (found j pos1 pos2) = at (f j pos1 pos2)
 
+-- the rule of a search that gives f j pos1 pos2 of what it finds
+unfoldable pub searchBy : {A : Type 0} → (ℕ → ℕ → ℕ → A) → List ℕ → StrPtr → List StrPtr → ℕ → Outcome (Sought A)
+searchBy f s host list count = outcome (searchRefusal s host list count) (given f (sought s host (take count list)))
+
 unfoldable pub searchRule : List ℕ → StrPtr → List StrPtr → ℕ → Outcome (Sought Match)
-searchRule s host list count = outcome (searchRefusal s host list count) (given (partsOf host) (sought s host (take count list)))
+searchRule s host list count = searchBy (partsOf host) s host list count
 
 -- match with after: the host is cut where the match begins
 unfoldable pub matchAfterRule : List ℕ → StrPtr → List StrPtr → ℕ → Outcome (Sought Split)
-matchAfterRule s host list count =
-    outcome (searchRefusal s host list count) (given (λ j pos1 pos2. splitOf host j pos1) (sought s host (take count list)))
+matchAfterRule s host list count = searchBy (λ j pos1 pos2. splitOf host j pos1) s host list count
 
 -- before with match: the host is cut where the match ends
 unfoldable pub beforeMatchRule : List ℕ → StrPtr → List StrPtr → ℕ → Outcome (Sought Split)
-beforeMatchRule s host list count =
-    outcome (searchRefusal s host list count) (given (λ j pos1 pos2. splitOf host j pos2) (sought s host (take count list)))
+beforeMatchRule s host list count = searchBy (λ j pos1 pos2. splitOf host j pos2) s host list count
 
 -- the paper's value for each case of the answers
-abbrev pub searched : SearchAnswer → Outcome (Sought Match)
-searched (Found m) = gives (at m)
-searched Nothing = gives nowhere
-searched (Refused n) = refused n
+abbrev pub searchAnswered : SearchAnswer → Outcome (Sought Match)
+searchAnswered (Found m) = gives (at m)
+searchAnswered Nothing = gives nowhere
+searchAnswered (Refused n) = refused n
 
-abbrev pub splitted : SplitAnswer → Outcome (Sought Split)
-splitted (SplitFound m) = gives (at m)
-splitted SplitNothing = gives nowhere
-splitted (SplitRefused n) = refused n
+abbrev pub splitAnswered : SplitAnswer → Outcome (Sought Split)
+splitAnswered (SplitFound m) = gives (at m)
+splitAnswered SplitNothing = gives nowhere
+splitAnswered (SplitRefused n) = refused n
+
+-- what the code asks before it makes pointers: two positions of the host in their order, in a room whose end a store may have
+pub record Within (host : StrPtr) (pos1 pos2 : ℕ) : Type 0 where
+  pub from : 1 ≤ pos1
+  pub order : pos1 ≤ pos2
+  pub to : pos2 ≤ host .length + 1
+  pub room : host .length ≤ host .maximum
+  pub end : host .start + host .maximum ≤ 65536
 
 abbrev pub findingOf : Finding → Outcome Result
 findingOf (FoundAt p) = gives (found (p .number) (p .pos1) (p .pos2))

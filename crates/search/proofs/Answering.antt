@@ -1,8 +1,7 @@
 -- Laws of the answers: the checks made in turn give the refusal, and what was found gives the answer. Assumes nothing.
-use Prim.Native.Nat.{ℕ, zero, suc, _+_, _-_, _≤_, _<_}
+use Prim.Native.Nat.{ℕ, zero, suc, _+_, _-_, _≤_}
 use mathlib.Core.Path.{_≡_, refl, sym, ap, _∙_}
-use mathlib.Core.Bool.{Bool, true, false}
-use mathlib.Core.List.{List, [], _∷_}
+use mathlib.Core.List.{List}
 use native.Mathlib.Omega.{arith}
 use lib.ListN.{length, take, drop, length-take, length-drop}
 use borrow.Author.Needs.{needs}
@@ -14,7 +13,8 @@ use Rattle.strlib.specs.Refusal.{Outcome, refused, gives, outcome}
 use Rattle.strlib.specs.declared.StrPtr.{StrPtr}
 use Rattle.search.specs.Search.{Result, nothing, found, plainSearch}
 use Rattle.search.specs.Occurrence.{occursAt, stringOf, Earliest}
-use Rattle.search.specs.Rule.{searchChecks, searchRefusal, sought, placed, findingOf, Within, partsOf, splitOf, Sought, nowhere, at, given, searchBy, searchRule, matchAfterRule, beforeMatchRule}
+use Rattle.search.specs.Inner.{placed, findingOf, Within}
+use Rattle.search.specs.Rule.{searchChecks, searchRefusal, sought, partsOf, splitOf, Sought, nowhere, at, given, searchBy, searchRule, matchAfterRule, beforeMatchRule}
 use Rattle.search.specs.declared.Match.{Match}
 use Rattle.search.specs.declared.Split.{Split}
 use Rattle.search.specs.declared.find.Place.{Place}

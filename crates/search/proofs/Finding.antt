@@ -1,11 +1,10 @@
 -- Laws of the nested loops. Where p characters were passed, what is left to search is the rest of the host; where k strings were tried at
 -- a position, the first that stands there is among the others; each turn keeps both. Assumes nothing.
-use Prim.Native.Nat.{ℕ, zero, suc, _+_, _-_, _≤_, _<_, min}
-use mathlib.Core.Path.{_≡_, refl, sym, ap, _∙_}
+use Prim.Native.Nat.{ℕ, zero, suc, _+_, _-_, _≤_, _<_}
+use mathlib.Core.Path.{_≡_, refl, sym, _∙_}
 use mathlib.Core.Bool.{Bool, true, false, cond}
 use mathlib.Core.List.{List, [], _∷_}
 use native.Mathlib.Nat.{zero-add}
-use native.Mathlib.Numerals.{add-one}
 use native.Mathlib.Omega.{arith}
 use lib.Dec.{leb}
 use lib.ListN.{length, take, drop, getD, length-take, length-drop}
@@ -16,8 +15,8 @@ use Rattle.strlib.proofs.Pointing.{leb-same}
 use Rattle.strlib.proofs.Listing.{prefix-cons, prefix-end}
 use Rattle.strlib.specs.Pointer.{textOf, texts}
 use Rattle.strlib.specs.declared.StrPtr.{StrPtr}
-use Rattle.search.specs.Search.{isPrefix, further, firstNumber, closed, lengthOf, Result, nothing, found, onward, atFront, plainSearch}
-use Rattle.search.specs.Rule.{placed}
+use Rattle.search.specs.Search.{isPrefix, further, closed, lengthOf, Result, nothing, found, onward, plainSearch}
+use Rattle.search.specs.Inner.{placed}
 
 -- the characters of one of listed strings
 pub texts-at : (s : List ℕ) (ps : List StrPtr) (k : ℕ) (d : StrPtr) → k < length ps → getD (texts s ps) k [] ≡ textOf s (getD ps k d)

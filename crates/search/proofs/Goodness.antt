@@ -1,6 +1,6 @@
 -- The pointers that a search gives: parts of a good host that end no later are good, and parts that lie one behind the other are one part.
 -- Assumes nothing.
-use Prim.Native.Nat.{ℕ, zero, suc, _+_, _-_, _≤_, _<_, min}
+use Prim.Native.Nat.{ℕ, _+_, _-_, _≤_}
 use mathlib.Core.Path.{_≡_, refl, sym, ap, _∙_}
 use mathlib.Core.Bool.{true}
 use mathlib.Core.List.{List, _++_}
@@ -12,11 +12,12 @@ use Rattle.strlib.proofs.Pointing.{good-part}
 use Rattle.strlib.proofs.Refusing.{outcome-gave, outcome-yes}
 use Rattle.strlib.proofs.Storing.{drop-take}
 use Rattle.strlib.specs.Pointer.{partOf, goodIn, textOf, texts}
-use Rattle.strlib.specs.Refusal.{Outcome, gives, outcome}
+use Rattle.strlib.specs.Refusal.{gives, outcome}
 use Rattle.strlib.specs.declared.StrPtr.{StrPtr}
-use Rattle.search.specs.Search.{Result, nothing, found, plainSearch}
-use Rattle.search.specs.Occurrence.{occursAt, stringOf, Earliest}
-use Rattle.search.specs.Rule.{searchChecks, searchRefusal, sought, Within, partsOf, splitOf, Sought, nowhere, at, given, searchBy, searchRule, matchAfterRule, beforeMatchRule}
+use Rattle.search.specs.Search.{Result, nothing, found}
+use Rattle.search.specs.Occurrence.{stringOf, Earliest}
+use Rattle.search.specs.Inner.{Within}
+use Rattle.search.specs.Rule.{searchRefusal, sought, partsOf, splitOf, at, given, searchBy, searchRule, matchAfterRule, beforeMatchRule}
 use Rattle.search.specs.Whole.{Parts, Halves}
 use Rattle.search.specs.declared.Match.{Match}
 use Rattle.search.specs.declared.Split.{Split}

@@ -2,15 +2,15 @@
 -- occurrence by one position, so the law follows by going through the host. Assumes nothing.
 use Prim.Native.Nat.{ℕ, zero, suc, _+_, _-_, _≤_, _<_}
 use mathlib.Core.Path.{_≡_, refl, sym, ap, _∙_}
-use mathlib.Core.Bool.{Bool, true, false, _&&_, true≢false, false≢true}
+use mathlib.Core.Bool.{Bool, true, false, true≢false}
 use mathlib.Core.List.{List, [], _∷_}
 use mathlib.Core.Logic.{_⊎_, inl, inr, ⊎-elim}
 use native.Mathlib.Omega.{arith}
-use lib.ListN.{length, take, drop, getD}
+use lib.ListN.{length, drop, getD}
 use lib.Seq.{drop-nil}
 use Rattle.search.proofs.Prefixes.{prefix-stands, stands-prefix}
 use Rattle.search.specs.Search.{isPrefix, firstNumber, closed, lengthOf, Result, nothing, found, onward, atFront, plainSearch}
-use Rattle.search.specs.Occurrence.{occursAt, stringOf, listedAt, Earliest, Nowhere, SearchLaw}
+use Rattle.search.specs.Occurrence.{stringOf, listedAt, Earliest, Nowhere, SearchLaw}
 
 -- ---- the first listed string that is a prefix
 

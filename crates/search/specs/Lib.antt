@@ -3,3 +3,4 @@ pub mod Occurrence
 pub mod Rule
 pub mod Whole
 pub mod Examples
+pub mod Inner

@@ -1,5 +1,5 @@
 -- What a search answers: 01, "Searching". Assumes nothing.
-use Prim.Native.Nat.{ℕ, zero, suc, _+_, _-_, _≤_}
+use Prim.Native.Nat.{ℕ, _+_, _-_}
 use mathlib.Core.Bool.{Bool}
 use mathlib.Core.List.{List, [], _∷_}
 use lib.Dec.{leb}
@@ -8,8 +8,6 @@ use Rattle.strlib.specs.Pointer.{partOf, storeFits, goodIn, textOf, texts, all,
 use Rattle.strlib.specs.Refusal.{Outcome, refused, gives, first, outcome}
 use Rattle.strlib.specs.declared.StrPtr.{StrPtr}
 use Rattle.search.specs.Search.{Result, nothing, found, plainSearch}
-use Rattle.search.specs.declared.find.Finding.{Finding}
-use Rattle.search.specs.declared.find.Finding.the-variants.{Found as FoundAt, Nothing as FoundNothing, Refused as FoundRefused}
 use Rattle.search.specs.declared.Match.{Match}
 use Rattle.search.specs.declared.Split.{Split}
 use Rattle.search.specs.declared.SearchAnswer.{SearchAnswer}
@@ -17,6 +15,7 @@ use Rattle.search.specs.declared.SearchAnswer.the-variants.{Found, Nothi
 use Rattle.search.specs.declared.SplitAnswer.{SplitAnswer}
 use Rattle.search.specs.declared.SplitAnswer.the-variants.{Found as SplitFound, Nothing as SplitNothing, Refused as SplitRefused}
 
+-- the store and the count; the host's pointer and the listed ones; the host's characters and those of the listed strings
 abbrev pub searchChecks : List ℕ → StrPtr → List StrPtr → ℕ → List (ℕ × Bool)
 searchChecks s host list count =
     (3, storeFits s) ∷ (3, leb count 32) ∷ (1, goodIn (length s) host) ∷ (1, all (goodIn (length s)) (take count list))
@@ -28,11 +27,6 @@ searchRefusal s host list count = first (searchChecks s host list count)
 -- the plain search for the listed strings among the host's characters
 unfoldable pub sought : List ℕ → StrPtr → List StrPtr → Result
 sought s host list = plainSearch (texts s list) (textOf s host)
-
--- a place as the code holds it, with number 0 for nothing
-unfoldable pub placed : ℕ → ℕ → ℕ → Result
-placed zero pos1 pos2 = nothing
-placed (suc j) pos1 pos2 = found (suc j) pos1 pos2
 
 -- before, match and after: the first two have maximum = length, the third keeps what is left of the host's maximum
 unfoldable pub partsOf : StrPtr → ℕ → ℕ → ℕ → Match
@@ -66,14 +60,15 @@ given f (found j pos1 pos2) = at (f j pos1 pos2)
 unfoldable pub searchBy : {A : Type 0} → (ℕ → ℕ → ℕ → A) → List ℕ → StrPtr → List StrPtr → ℕ → Outcome (Sought A)
 searchBy f s host list count = outcome (searchRefusal s host list count) (given f (sought s host (take count list)))
 
+-- before, match and after
 unfoldable pub searchRule : List ℕ → StrPtr → List StrPtr → ℕ → Outcome (Sought Match)
 searchRule s host list count = searchBy (partsOf host) s host list count
 
--- match with after: the host is cut where the match begins
+-- before, and match with after: the host is cut where the match begins
 unfoldable pub matchAfterRule : List ℕ → StrPtr → List StrPtr → ℕ → Outcome (Sought Split)
 matchAfterRule s host list count = searchBy (λ j pos1 pos2. splitOf host j pos1) s host list count
 
--- before with match: the host is cut where the match ends
+-- before with match, and after: the host is cut where the match ends
 unfoldable pub beforeMatchRule : List ℕ → StrPtr → List StrPtr → ℕ → Outcome (Sought Split)
 beforeMatchRule s host list count = searchBy (λ j pos1 pos2. splitOf host j pos2) s host list count
 
@@ -87,16 +82,3 @@ abbrev pub splitAnswered : SplitAnswer → Outcome (Sought Split)
 splitAnswered (SplitFound m) = gives (at m)
 splitAnswered SplitNothing = gives nowhere
 splitAnswered (SplitRefused n) = refused n
-
--- what the code asks before it makes pointers: two positions of the host in their order, in a room whose end a store may have
-pub record Within (host : StrPtr) (pos1 pos2 : ℕ) : Type 0 where
-  pub from : 1 ≤ pos1
-  pub order : pos1 ≤ pos2
-  pub to : pos2 ≤ host .length + 1
-  pub room : host .length ≤ host .maximum
-  pub end : host .start + host .maximum ≤ 65536
-
-abbrev pub findingOf : Finding → Outcome Result
-findingOf (FoundAt p) = gives (found (p .number) (p .pos1) (p .pos2))
-findingOf FoundNothing = gives nothing
-findingOf (FoundRefused n) = refused n

@@ -7,7 +7,8 @@ ghost use lib.ListN.{take};
 ghost use Rattle.strlib.specs.Pointer.{texts};
 ghost use Rattle.search.specs.Search.{isPrefix, plainSearch};
 ghost use Rattle.strlib.specs.Refusal.{outcome};
-ghost use Rattle.search.specs.Rule.{placed, searchRefusal, sought, findingOf};
+ghost use Rattle.search.specs.Inner.{placed, findingOf};
+ghost use Rattle.search.specs.Rule.{searchRefusal, sought};
 
 // String `number` of the list stands from pos1 to pos2; number 0 for none.
 pub struct Place {

@@ -9,12 +9,12 @@ use borrow.Author.Tests.{leb-true}
 use Rattle.strlib.proofs.Pointing.{good-is, text-length}
 use Rattle.strlib.proofs.Refusing.{inTurn, first-is, Passed, passed, outcome-no, outcome-yes, outcome-gave, outcome-refused}
 use Rattle.strlib.specs.Pointer.{storeFits, textOf, texts}
-use Rattle.strlib.specs.Refusal.{Outcome, refused, gives, outcome}
+use Rattle.strlib.specs.Refusal.{Outcome, refused, gives, outcome, Sought, nowhere, at}
 use Rattle.strlib.specs.declared.StrPtr.{StrPtr}
 use Rattle.search.specs.Search.{Result, nothing, found, plainSearch}
 use Rattle.search.specs.Occurrence.{occursAt, stringOf, Earliest}
 use Rattle.search.specs.Inner.{placed, findingOf, Within}
-use Rattle.search.specs.Rule.{searchChecks, searchRefusal, sought, partsOf, splitOf, Sought, nowhere, at, given, searchBy, searchRule, matchAfterRule, beforeMatchRule}
+use Rattle.search.specs.Rule.{searchChecks, searchRefusal, sought, partsOf, splitOf, given, searchBy, searchRule, matchAfterRule, beforeMatchRule}
 use Rattle.search.specs.declared.Match.{Match}
 use Rattle.search.specs.declared.Split.{Split}
 use Rattle.search.specs.declared.find.Place.{Place}

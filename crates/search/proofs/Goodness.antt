@@ -12,12 +12,12 @@ use Rattle.strlib.proofs.Pointing.{good-part}
 use Rattle.strlib.proofs.Refusing.{outcome-gave, outcome-yes}
 use Rattle.strlib.proofs.Storing.{drop-take}
 use Rattle.strlib.specs.Pointer.{partOf, goodIn, textOf, texts}
-use Rattle.strlib.specs.Refusal.{gives, outcome}
+use Rattle.strlib.specs.Refusal.{gives, outcome, at}
 use Rattle.strlib.specs.declared.StrPtr.{StrPtr}
 use Rattle.search.specs.Search.{Result, nothing, found}
 use Rattle.search.specs.Occurrence.{stringOf, Earliest}
 use Rattle.search.specs.Inner.{Within}
-use Rattle.search.specs.Rule.{searchRefusal, sought, partsOf, splitOf, at, given, searchBy, searchRule, matchAfterRule, beforeMatchRule}
+use Rattle.search.specs.Rule.{searchRefusal, sought, partsOf, splitOf, given, searchBy, searchRule, matchAfterRule, beforeMatchRule}
 use Rattle.search.specs.Whole.{Parts, Halves}
 use Rattle.search.specs.declared.Match.{Match}
 use Rattle.search.specs.declared.Split.{Split}

@@ -3,10 +3,10 @@ use Prim.Native.Nat.{ℕ, zero, suc, _+_}
 use mathlib.Core.Path.{_≡_, refl}
 use mathlib.Core.List.{List, [], _∷_, _++_}
 use Rattle.strlib.specs.Pointer.{pointer, partOf, storeFits, goodIn, textOf, texts, all, characters, readable}
-use Rattle.strlib.specs.Refusal.{refused, gives, outcome}
+use Rattle.strlib.specs.Refusal.{refused, gives, outcome, nowhere, at}
 use Rattle.strlib.specs.declared.StrPtr.{StrPtr}
 use Rattle.search.specs.Search.{nothing, found, plainSearch}
-use Rattle.search.specs.Rule.{searchRefusal, sought, partsOf, splitOf, nowhere, at, given, searchBy, searchRule, matchAfterRule, beforeMatchRule}
+use Rattle.search.specs.Rule.{searchRefusal, sought, partsOf, splitOf, given, searchBy, searchRule, matchAfterRule, beforeMatchRule}
 
 -- n characters one after the other, from c on
 abbrev pub from : ℕ → ℕ → List ℕ

@@ -5,7 +5,7 @@ use mathlib.Core.List.{List, [], _∷_}
 use lib.Dec.{leb}
 use lib.ListN.{length, take}
 use Rattle.strlib.specs.Pointer.{partOf, storeFits, goodIn, textOf, texts, all, readable}
-use Rattle.strlib.specs.Refusal.{Outcome, refused, gives, first, outcome}
+use Rattle.strlib.specs.Refusal.{Outcome, refused, gives, first, outcome, Sought, nowhere, at}
 use Rattle.strlib.specs.declared.StrPtr.{StrPtr}
 use Rattle.search.specs.Search.{Result, nothing, found, plainSearch}
 use Rattle.search.specs.declared.Match.{Match}
@@ -48,10 +48,6 @@ splitOf host j p =
     }
 
 -- nothing found, or what is given of string j from pos1 to pos2
-pub data Sought (A : Type 0) : Type 0 where
-  nowhere : Sought A
-  at : A → Sought A
-
 unfoldable pub given : {A : Type 0} → (ℕ → ℕ → ℕ → A) → Result → Sought A
 given f nothing = nowhere
 given f (found j pos1 pos2) = at (f j pos1 pos2)

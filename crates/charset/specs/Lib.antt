@@ -1,3 +1,5 @@
 pub mod Sets
 pub mod Rule
 pub mod Inner
+pub mod Bits
+pub mod Nearest

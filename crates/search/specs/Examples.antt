@@ -13,7 +13,7 @@ abbrev pub from : ℕ → ℕ → List ℕ
 from c zero = []
 from c (suc n) = c ∷ from (suc c) n
 
--- n digits from d on, '34' being `digits 3 2`, and n letters from the k-th behind a on, 'bc' being `letters 1 2`
+-- n digits from d on: '34' is `digits 3 2`; and n letters from the one k behind a on: 'bc' is `letters 1 2`
 abbrev pub digits : ℕ → ℕ → List ℕ
 digits d n = from (48 + d) n
 
@@ -24,6 +24,7 @@ letters k n = from (97 + k) n
 abbrev pub host : List ℕ
 host = digits 0 10
 
+-- the null string
 abbrev pub null : List ℕ
 null = []
 
@@ -31,6 +32,7 @@ null = []
 abbrev pub andX : List ℕ → List ℕ
 andX s = s ++ (120 ∷ [])
 
+-- string j is found from pos1 to pos2
 pub record Examples : Type 0 where
   pub A : plainSearch (digits 5 5 ∷ digits 3 2 ∷ digits 2 2 ∷ []) host ≡ found 3 3 5
   pub B : plainSearch (digits 3 2 ∷ digits 3 5 ∷ []) host ≡ found 1 4 6
@@ -52,6 +54,7 @@ store = host ++ (0 ∷ 0 ∷ [])
 abbrev pub listA : List StrPtr
 listA = pointer 5 5 5 ∷ pointer 3 2 2 ∷ pointer 2 2 2 ∷ []
 
+-- what the calls give of them, and refusals: 3 before 1
 pub record Pointers : Type 0 where
   pub parts :
       searchRule store (pointer 0 10 12) listA 3

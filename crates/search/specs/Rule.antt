@@ -21,6 +21,7 @@ searchChecks s host list count =
     (3, storeFits s) ∷ (3, leb count 32) ∷ (1, goodIn (length s) host) ∷ (1, all (goodIn (length s)) (take count list))
     ∷ (2, readable s host) ∷ (2, all (readable s) (take count list)) ∷ []
 
+-- the number of the first that fails, 0 for none
 unfoldable pub searchRefusal : List ℕ → StrPtr → List StrPtr → ℕ → ℕ
 searchRefusal s host list count = first (searchChecks s host list count)
 
@@ -68,12 +69,13 @@ matchAfterRule s host list count = searchBy (λ j pos1 pos2. splitOf host j pos1
 unfoldable pub beforeMatchRule : List ℕ → StrPtr → List StrPtr → ℕ → Outcome (Sought Split)
 beforeMatchRule s host list count = searchBy (λ j pos1 pos2. splitOf host j pos2) s host list count
 
--- the paper's value for each case of the answers
+-- the paper's value for each case of the answer
 abbrev pub searchAnswered : SearchAnswer → Outcome (Sought Match)
 searchAnswered (Found m) = gives (at m)
 searchAnswered Nothing = gives nowhere
 searchAnswered (Refused n) = refused n
 
+-- and of the joined forms
 abbrev pub splitAnswered : SplitAnswer → Outcome (Sought Split)
 splitAnswered (SplitFound m) = gives (at m)
 splitAnswered SplitNothing = gives nowhere

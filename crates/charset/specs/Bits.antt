@@ -1,4 +1,4 @@
--- What the writers do, bit by bit: in each masked table, and nowhere else. Assumes nothing.
+-- What the writers do, bit by bit: 01, "Character sets": in each masked table; all other bits stay. Assumes nothing.
 use Prim.Native.Nat.{ℕ, zero, suc, _/_, _%_, _≤_, _<_}
 use mathlib.Core.Path.{_≡_}
 use mathlib.Core.Bool.{Bool, true, false, cond, _||_}

@@ -19,11 +19,11 @@ use Rattle.search.specs.Search.{isPrefix, further, closed, lengthOf, Res
 use Rattle.search.specs.Inner.{placed}
 
 -- the characters of one of listed strings
-pub texts-at : (s : List ℕ) (ps : List StrPtr) (k : ℕ) (d : StrPtr) → k < length ps → getD (texts s ps) k [] ≡ textOf s (getD ps k d)
+pub listed-text : (s : List ℕ) (ps : List StrPtr) (k : ℕ) (d : StrPtr) → k < length ps → getD (texts s ps) k [] ≡ textOf s (getD ps k d)
 unfolding texts
-texts-at s [] k d h = absurd (omega arith)
-texts-at s (p ∷ ps) zero d h = refl
-texts-at s (p ∷ ps) (suc k) d h = texts-at s ps k d (omega arith)
+listed-text s [] k d h = absurd (omega arith)
+listed-text s (p ∷ ps) zero d h = refl
+listed-text s (p ∷ ps) (suc k) d h = listed-text s ps k d (omega arith)
 
 -- ---- the strings tried at a position
 
@@ -134,7 +134,7 @@ module _ (s : List ℕ) (l : List StrPtr) (c : ℕ) (h : List ℕ) (p : ℕ) (o 
     find-hit d x b n pos2 q r f i j z u v =
         let e : closed (texts s (take c l)) (drop p h) ≡ suc k = rw whole-rest at (tried-hit s l c (take (length h - p) (drop p h)) k t d x b q r i j z f) in
         let a : k < length (take c l) = simp length-take (omega arith) in
-        let g : getD (texts s (take c l)) k [] ≡ x = texts-at s (take c l) k d a ∙ rw (getD-take c l k d i, q) in
+        let g : getD (texts s (take c l)) k [] ≡ x = listed-text s (take c l) k d a ∙ rw (getD-take c l k d i, q) in
         let y : p + suc (length x) ≡ pos2 = omega arith in
         let w : n ≡ suc k = omega arith in
         rw w (sym (passed-hit (texts s (take c l)) h p o m k e ∙ rw (g, y)))

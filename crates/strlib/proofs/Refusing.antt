@@ -124,6 +124,12 @@ unfolding outcome
 outcome-gave zero x y e = (refl, cc)
 outcome-gave (suc k) x y e = let z : _≡_ {A = ℕ} 0 1 = cc in absurd (omega arith)
 
+-- a refusal does not depend on the value
+pub outcome-refused : {A B : Type 0} (k : ℕ) (x : A) (y : B) (n : ℕ) → outcome k x ≡ refused n → refused n ≡ outcome k y
+unfolding outcome
+outcome-refused zero x y n e = let z : _≡_ {A = ℕ} 0 1 = cc in absurd (omega arith)
+outcome-refused (suc k) x y n e = let z : n ≡ suc k = cc in rw z
+
 pub ruled-gave : {A : Type 0} (k : ℕ) (x y : A) (new old : List ℕ) → ruled k x new old .0 ≡ gives y → (k ≡ 0) × ((x ≡ y) × (ruled k x new old .1 ≡ new))
 unfolding ruled after
 ruled-gave k x y new old e = let g = outcome-gave k x y e in (g .0, (g .1, rw (g .0)))

@@ -11,6 +11,11 @@ pub data Outcome (A : Type 0) : Type 0 where
   refused : ℕ → Outcome A
   gives : A → Outcome A
 
+-- what a search gives: nothing found, which is no refusal, or the value
+pub data Sought (A : Type 0) : Type 0 where
+  nowhere : Sought A
+  at : A → Sought A
+
 -- checks in their order, each a refusal's number with what has to hold: the number of the first that does not hold, 0 if all do
 abbrev pub first : List (ℕ × Bool) → ℕ
 first [] = 0

@@ -1,0 +1,5 @@
+pub mod Turning
+pub mod Choosing
+pub mod Answering
+pub mod Bitwise
+pub mod Meaning

@@ -1,0 +1,130 @@
+-- Laws of the answers: the checks made in turn give the refusal, and what was found gives the answer. Assumes nothing.
+use Prim.Native.Nat.{ℕ, zero, suc, _+_, _-_, _≤_}
+use mathlib.Core.Path.{_≡_, refl, sym, ap, _∙_}
+use mathlib.Core.List.{List}
+use native.Mathlib.Omega.{arith}
+use lib.ListN.{length, take, drop, length-take, length-drop}
+use borrow.Author.Needs.{needs}
+use borrow.Author.Tests.{leb-true}
+use Rattle.strlib.proofs.Pointing.{good-is, text-length}
+use Rattle.strlib.proofs.Refusing.{inTurn, first-is, Passed, passed, outcome-no, outcome-yes, outcome-gave, outcome-refused}
+use Rattle.strlib.specs.Pointer.{storeFits, textOf, texts}
+use Rattle.strlib.specs.Refusal.{Outcome, refused, gives, outcome, Sought, nowhere, at}
+use Rattle.strlib.specs.declared.StrPtr.{StrPtr}
+use Rattle.search.specs.Search.{Result, nothing, found, plainSearch}
+use Rattle.search.specs.Occurrence.{occursAt, stringOf, Earliest}
+use Rattle.search.specs.Inner.{placed, findingOf, Within}
+use Rattle.search.specs.Rule.{searchChecks, searchRefusal, sought, partsOf, splitOf, given, searchBy, searchRule, matchAfterRule, beforeMatchRule}
+use Rattle.search.specs.declared.Match.{Match}
+use Rattle.search.specs.declared.Split.{Split}
+use Rattle.search.specs.declared.find.Place.{Place}
+use Rattle.search.specs.declared.find.Finding.{Finding}
+use Rattle.search.specs.declared.find.Finding.the-variants.{Found as FoundAt, Nothing as FoundNothing, Refused as FoundRefused}
+use Rattle.search.proofs.Meaning.{search-law}
+
+module _ (s : List ℕ) (host : StrPtr) (l : List StrPtr) (c k : ℕ) where
+  pub search-checked : k ≡ inTurn 0 (searchChecks s host l c) → k ≡ searchRefusal s host l c
+  unfolding searchRefusal
+  search-checked e = first-is (searchChecks s host l c) refl k e
+
+  -- where nothing was refused
+  module _ (e : k ≡ searchRefusal s host l c) (z : k ≡ 0) where
+    pub checked : Passed (searchChecks s host l c)
+    unfolding searchRefusal
+    checked = passed (searchChecks s host l c) refl (sym e ∙ z)
+
+    pub listed-count : c ≤ 32
+    listed-count = leb-true c 32 (checked .1 .0)
+
+    module _ (h : List ℕ) (j pos1 pos2 : ℕ) (t : h ≡ textOf s host) (f : placed j pos1 pos2 ≡ plainSearch (texts s (take c l)) h) where
+      given-as : (r : Result) → placed j pos1 pos2 ≡ r → gives r ≡ outcome (searchRefusal s host l c) (sought s host (take c l))
+      unfolding sought
+      given-as r q = outcome-yes k (searchRefusal s host l c) e r _ z (sym q ∙ f ∙ ap (plainSearch (texts s (take c l))) t)
+
+      pub listed-nothing : j ≡ 0 → gives nothing ≡ outcome (searchRefusal s host l c) (sought s host (take c l))
+      unfolding placed
+      listed-nothing y = given-as nothing (rw y)
+
+      pub listed-found : (j ≡ 0 → ⊥) → gives (found j pos1 pos2) ≡ outcome (searchRefusal s host l c) (sought s host (take c l))
+      unfolding placed
+      listed-found y = given-as (found j pos1 pos2) (go j y)
+        where
+          go : (n : ℕ) → (n ≡ 0 → ⊥) → placed n pos1 pos2 ≡ found n pos1 pos2
+          go zero f = absurd (f refl)
+          go (suc n) f = refl
+
+-- ---- the positions found lie in the host
+
+-- by the search's law: the match ends inside the host
+pub found-bounds : (ss : List (List ℕ)) (h : List ℕ) (j pos1 pos2 : ℕ) → plainSearch ss h ≡ found j pos1 pos2 → (1 ≤ pos1) × ((pos1 ≤ pos2) × (pos2 ≤ length h + 1))
+found-bounds ss h j pos1 pos2 e =
+    let a : Earliest ss h j pos1 pos2 = search-law ss h .found-is j pos1 pos2 e in
+    let o : occursAt h pos1 (stringOf ss j) = a .occurs .occurs in
+    let n : length (take (length (stringOf ss j)) (drop (pos1 - 1) h)) ≡ length (stringOf ss j) = ap length (o .stands) in
+    let b : length (stringOf ss j) ≤ length h - (pos1 - 1) = omega (arith, simp (length-take, length-drop) at n) in
+    (o .from, (omega (arith, a .ends), omega (arith, a .ends, o .from, o .to)))
+
+-- ---- the answer of a call
+
+module _ (s : List ℕ) (host : StrPtr) (l : List StrPtr) (c : ℕ) where
+  pub within : (j pos1 pos2 : ℕ) → outcome (searchRefusal s host l c) (sought s host (take c l)) ≡ gives (found j pos1 pos2) → Within host pos1 pos2
+  unfolding sought storeFits
+  within j pos1 pos2 e =
+      let g = outcome-gave (searchRefusal s host l c) (sought s host (take c l)) (found j pos1 pos2) e in
+      let ok : Passed (searchChecks s host l c) = checked s host l c 0 (sym (g .0)) refl in
+      let b = found-bounds (texts s (take c l)) (textOf s host) j pos1 pos2 (g .1) in
+      let n : length (textOf s host) ≡ host .length = text-length s host (ok .1 .1 .0) in
+      let r = good-is (length s) host (ok .1 .1 .0) in
+      let m : length s ≤ 65536 = leb-true (length s) 65536 (ok .0) in
+      record { from = b .0; order = b .1 .0; to = omega arith; room = r .0; end = omega arith }
+
+  module _ (r : Finding) (e : findingOf r ≡ outcome (searchRefusal s host l c) (sought s host (take c l))) where
+    module _ (p : Place) (q : r ≡ FoundAt p) where
+      pub found-within : Within host (p .pos1) (p .pos2)
+      found-within = within (p .number) (p .pos1) (p .pos2) (sym e ∙ ap findingOf q)
+
+      pub found-first : Within host (p .pos1) (p .pos1)
+      found-first = let w = found-within in record { from = w .from; order = omega arith; to = omega arith; room = w .room; end = w .end }
+
+      pub found-last : Within host (p .pos2) (p .pos2)
+      found-last = let w = found-within in record { from = omega arith; order = omega arith; to = w .to; room = w .room; end = w .end }
+
+    module _ {A : Type 0} (f : ℕ → ℕ → ℕ → A) where
+      pub answer-found : (p : Place) (m : A) → r ≡ FoundAt p → m ≡ f (p .number) (p .pos1) (p .pos2) → gives (at m) ≡ searchBy f s host l c
+      unfolding searchBy given
+      answer-found p m q z = let g = outcome-gave _ _ _ (sym e ∙ ap findingOf q) in outcome-yes 0 (searchRefusal s host l c) (sym (g .0)) (at m) _ refl (rw (g .1, z))
+
+      pub answer-nothing : r ≡ FoundNothing → gives nowhere ≡ searchBy f s host l c
+      unfolding searchBy given
+      answer-nothing q = let g = outcome-gave _ _ _ (sym e ∙ ap findingOf q) in outcome-yes 0 (searchRefusal s host l c) (sym (g .0)) nowhere _ refl (rw (g .1))
+
+      pub answer-refused : (n : ℕ) → r ≡ FoundRefused n → refused n ≡ searchBy f s host l c
+      unfolding searchBy
+      answer-refused n q = outcome-refused (searchRefusal s host l c) (sought s host (take c l)) (given f (sought s host (take c l))) n (sym e ∙ ap findingOf q)
+
+  pub search-is : (a : Outcome (Sought Match)) → a ≡ searchBy (partsOf host) s host l c → a ≡ searchRule s host l c
+  unfolding searchRule
+  search-is a e = e
+
+  pub match-after-is : (a : Outcome (Sought Split)) → a ≡ searchBy (λ j pos1 pos2. splitOf host j pos1) s host l c → a ≡ matchAfterRule s host l c
+  unfolding matchAfterRule
+  match-after-is a e = e
+
+  pub before-match-is : (a : Outcome (Sought Split)) → a ≡ searchBy (λ j pos1 pos2. splitOf host j pos2) s host l c → a ≡ beforeMatchRule s host l c
+  unfolding beforeMatchRule
+  before-match-is a e = e
+
+pub ruleset answer-laws = (
+  needs,
+  found-within,
+  found-first,
+  found-last,
+  answer-found,
+  answer-nothing,
+  answer-refused,
+  search-is,
+  match-after-is,
+  before-match-is,
+)
+
+pub ruleset listed-laws = (needs, outcome-no, listed-count, listed-nothing, listed-found)

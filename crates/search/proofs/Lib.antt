@@ -1,0 +1,5 @@
+pub mod Prefixes
+pub mod Meaning
+pub mod Finding
+pub mod Answering
+pub mod Goodness

@@ -1,0 +1,16 @@
+use borrow.Author.Needs.{needs}
+use Rattle.strlib.specs.Pointer.{pointer, partOf}
+use Rattle.search.proofs.part_of.Statement.{statement}
+use Rattle.search.proofs.part_of.Tie as tie
+
+returns : tie.Need-returns
+unfolding pointer partOf
+returns c = cc
+
+pub part-of-spec : {M : Type 1} → statement M
+part-of-spec =
+    tie.close
+    (tie.spec
+    (λ c. search needs)
+    (λ c κs. tt)
+    returns)

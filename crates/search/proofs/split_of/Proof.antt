@@ -1,0 +1,23 @@
+use borrow.Author.Needs.{needs}
+use Rattle.search.specs.Rule.{splitOf}
+use Rattle.search.proofs.split_of.Statement.{statement}
+use Rattle.search.proofs.split_of.Tie as tie
+
+returns : tie.Need-returns
+unfolding splitOf
+returns c = cc
+
+pub split-of-spec : {M : Type 1} → statement M
+split-of-spec =
+    tie.close
+    (tie.spec
+    (λ c. search needs)
+    (λ c. search needs)
+    (λ c κs. search needs)
+    (λ c. search needs)
+    (λ c. search needs)
+    (λ c. search needs)
+    (λ c. search needs)
+    (λ c. search needs)
+    (λ c κs. search needs)
+    returns)

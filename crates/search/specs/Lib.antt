@@ -1,0 +1,6 @@
+pub mod Search
+pub mod Occurrence
+pub mod Rule
+pub mod Whole
+pub mod Examples
+pub mod Inner

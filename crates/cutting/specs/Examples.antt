@@ -1,7 +1,8 @@
 -- Worked cuts, as one claim on the definitions. Assumes nothing.
 use Prim.Native.Nat.{ℕ, zero, suc, _+_, _-_}
 use mathlib.Core.Path.{_≡_, refl}
-use mathlib.Core.List.{List, [], _∷_}
+use mathlib.Core.List.{List, [], _∷_, _++_}
+use Rattle.strlib.specs.Quoted.{bytes}
 use Rattle.strlib.specs.Pointer.{pointer, sized, partOf, storeFits, goodIn, textOf, all, characters, readable}
 use Rattle.strlib.specs.Refusal.{refused, gives, outcome}
 use Rattle.strlib.specs.declared.StrPtr.{StrPtr}
@@ -9,9 +10,9 @@ use Rattle.cutting.specs.Cutting.{blanks, trimmed, second, countedIn, be
 use Rattle.cutting.specs.Part.{whole, sliceCut}
 use Rattle.cutting.specs.declared.Cut.the-variants.{Relative, Counted, Between, Trimmed}
 
--- LSP 31, then two blanks, then a byte that is no character
+-- a label, then a byte that is no character
 abbrev pub store : List ℕ
-store = 76 ∷ 83 ∷ 80 ∷ 32 ∷ 51 ∷ 49 ∷ 32 ∷ 32 ∷ 200 ∷ []
+store = bytes "LSP 31  " ++ (200 ∷ [])
 
 -- its eight characters, in a room of nine
 abbrev pub label : StrPtr

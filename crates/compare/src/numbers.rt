@@ -1,16 +1,10 @@
 // What a comparison asks of numbers and of single characters.
 use strlib::StrPtr;
 ghost use mathlib.Core.Path.{_≡_};
-ghost use mathlib.Core.Bool.{cond, _&&_};
+ghost use mathlib.Core.Bool.{cond};
 ghost use lib.ListN.{getD};
 ghost use Rattle.compare.specs.Order.{orderN, signOf};
 ghost use Rattle.compare.specs.Compare.{translates, pairs, lengthDecides};
-
-fn both(a: bool, b: bool) -> bool
-    ensures { λ r. ⌜ r ≡ (a && b) ⌝ }
-{
-    if a { b } else { false }
-}
 
 pub fn pick(test: bool, a: usize, b: usize) -> usize
     ensures { λ r. ⌜ r ≡ cond test a b ⌝ }
@@ -21,7 +15,7 @@ pub fn pick(test: bool, a: usize, b: usize) -> usize
 pub fn in_translation(t: i64) -> bool
     ensures { λ r. ⌜ r ≡ translates t ⌝ }
 {
-    both(StrPtr::TRANSLATION_MIN <= t, t <= StrPtr::TRANSLATION_MAX)
+    strlib::both(StrPtr::TRANSLATION_MIN <= t, t <= StrPtr::TRANSLATION_MAX)
 }
 
 pub fn order_of(m: usize, n: usize) -> usize
@@ -64,5 +58,5 @@ pub fn pairs_of(style: usize, m: usize, n: usize) -> usize
 pub fn length_decides(style: usize, m: usize, n: usize) -> bool
     ensures { λ r. ⌜ r ≡ lengthDecides style m n ⌝ }
 {
-    both(style == 1, m != n)
+    strlib::both(style == 1, m != n)
 }

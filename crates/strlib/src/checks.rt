@@ -2,9 +2,17 @@
 // A string's characters are looked at only where nothing was refused before.
 use super::StrPtr;
 use super::strings;
+ghost use mathlib.Core.Bool.{_&&_};
 ghost use mathlib.Core.Path.{_≡_};
 ghost use Rattle.strlib.specs.Pointer.{storeFits, goodIn, readable};
 ghost use Rattle.strlib.specs.Refusal.{also};
+
+// Both tests as one, so that a range is one check.
+pub fn both(a: bool, b: bool) -> bool
+    ensures { λ r. ⌜ r ≡ (a && b) ⌝ }
+{
+    if a { b } else { false }
+}
 
 pub fn check(found: u8, number: u8, ok: bool) -> u8
     ensures { λ r. ⌜ r ≡ also found number ok ⌝ }

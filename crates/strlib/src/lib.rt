@@ -5,6 +5,7 @@ mod strings;
 
 ghost use mathlib.Core.Path.{_≡_};
 ghost use Rattle.strlib.specs.Pointer.{goodIn, pointer, sized};
+pub use checks::both;
 pub use checks::check;
 pub use checks::check_good;
 pub use checks::check_readable;

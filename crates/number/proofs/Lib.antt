@@ -1,0 +1,5 @@
+pub mod Ranging
+pub mod Holding
+pub mod Reading
+pub mod Counting
+pub mod Writing

@@ -40,7 +40,7 @@ module _ (base : ℕ) where
   unfolding digits
   digits-few n = few-in 36 n
 
-  some-in : (k n : ℕ) → 0 < length (digitsIn (suc k) base n)
+  pub some-in : (k n : ℕ) → 0 < length (digitsIn (suc k) base n)
   unfolding digitsIn
   some-in k n = go (ltb n base)
     where

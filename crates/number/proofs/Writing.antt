@@ -1,19 +1,19 @@
 -- Laws of writing: the digits put so far and those of the quotient make up the whole, and the call's answers follow from its checks.
 -- Assumes nothing.
 use mathlib.Core.Path.{_≡_, refl, sym, ap, _∙_}
-use mathlib.Core.Bool.{Bool, true, false, cond}
+use mathlib.Core.Bool.{Bool, true, false, cond, true≢false}
 use mathlib.Core.List.{List, [], _∷_, _++_}
 use Prim.Native.Nat.{ℕ, zero, suc, _+_, _-_, _/_, _%_, _≤_, _<_}
 use native.Mathlib.Nat.{mod-lt, div-le-self, div-lt-self}
 use native.Mathlib.Omega.{arith}
 use lib.Dec.{leb}
-use lib.IntN.{ℤ, pos, natAbs}
+use lib.IntN.{ℤ, pos, negsuc, natAbs}
 use lib.ListN.{length, set, length-set, length-append}
 use lib.Signed.{ltZ}
 use mir.Syntax.{w64}
 use mir.Val.{Fits}
 use borrow.Author.Needs.{needs}
-use borrow.Author.Tests.{leb-true, le-leb, lt-leb}
+use borrow.Author.Tests.{leb-true, le-leb, lt-leb, ltb-true}
 use Rattle.strlib.proofs.Refusing.{inTurn, first-is, first-before, first-behind, Passed, passed, ruled-no, ruled-yes}
 use Rattle.strlib.proofs.Pointing.{good-is}
 use Rattle.strlib.proofs.Storing.{set-put, put-put, put-before}
@@ -77,16 +77,28 @@ module _ (s : List ℕ) (base n count at size : ℕ) (k : Room base n count at s
 pub ruleset put-laws =
     (needs, divisor-some, rest-small, first-small, quotient-below, digit-left, place-in, front-in, put-count, put-small, put-step, put-last)
 
--- ---- the text: z is what the machine reads back from the bits of z′
+-- ---- the text
+
+sign-minus : (z : ℤ) → ltZ z (pos 0) ≡ true → sign z ≡ 45 ∷ []
+unfolding sign
+sign-minus (pos n) t = absurd (omega (arith, ltb-true n 0 t))
+sign-minus (negsuc n) t = refl
+
+sign-none : (z : ℤ) → ltZ z (pos 0) ≡ false → sign z ≡ []
+unfolding sign
+sign-none (pos n) t = refl
+sign-none (negsuc n) t = absurd (true≢false t)
+
+-- z is what the machine reads back from the bits of z′
 
 module _ (base m count : ℕ) (z z′ : ℤ) (ez : z ≡ z′) (em : m ≡ natAbs z) where
   negative-is : ltZ z (pos 0) ≡ true → written base z′ ≡ (45 ∷ []) ++ digits base m
-  unfolding written sign
-  negative-is t = rw (← ez, t, ← em)
+  unfolding written
+  negative-is t = rw (← ez, sign-minus z t, ← em)
 
   plain-is : ltZ z (pos 0) ≡ false → written base z′ ≡ digits base m
-  unfolding written sign
-  plain-is t = rw (← ez, t, ← em)
+  unfolding written
+  plain-is t = rw (← ez, sign-none z t, ← em)
 
   pub text-countable : isBase base ≡ true → inRange z′ ≡ true → Countable base m
   text-countable g r =

@@ -3,8 +3,7 @@ use Prim.Native.Nat.{ℕ, zero, suc, _+_, _/_, _%_}
 use mathlib.Core.Bool.{cond}
 use mathlib.Core.List.{List, [], _∷_, _++_}
 use lib.Dec.{ltb}
-use lib.IntN.{ℤ, pos, natAbs}
-use lib.Signed.{ltZ}
+use lib.IntN.{ℤ, pos, negsuc, natAbs}
 
 -- the digits of n, at most k: a number under the base is one digit; else the last digit is the remainder, and those of the quotient stand before it
 unfoldable pub digitsIn : ℕ → ℕ → ℕ → List ℕ
@@ -15,8 +14,10 @@ digitsIn (suc k) base n = cond (ltb n base) ((48 + n) ∷ []) (digitsIn k base (
 unfoldable pub digits : ℕ → ℕ → List ℕ
 digits base n = digitsIn 36 base n
 
+-- a minus (45) if negative (`negsuc n` is −(n + 1))
 unfoldable pub sign : ℤ → List ℕ
-sign z = cond (ltZ z (pos 0)) (45 ∷ []) []
+sign (pos n) = []
+sign (negsuc n) = 45 ∷ []
 
 unfoldable pub written : ℕ → ℤ → List ℕ
 written base z = sign z ++ digits base (natAbs z)

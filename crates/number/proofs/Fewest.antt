@@ -1,14 +1,14 @@
 -- The digits written are the fewest: n digits make numbers under base^n only, and each number under base^n has at most n digits. Assumes nothing.
-use mathlib.Core.Path.{_≡_, refl, sym, ap, _∙_}
-use mathlib.Core.Bool.{Bool, true, false, cond, _&&_, false≢true}
+use mathlib.Core.Path.{_≡_, refl, sym, _∙_}
+use mathlib.Core.Bool.{Bool, true, false, cond, false≢true}
 use mathlib.Core.List.{List, [], _∷_, _++_}
 use Prim.Native.Nat.{ℕ, zero, suc, _+_, _-_, _*_, _/_, _%_, _^_, _≤_, _<_, zero-le}
 use native.Mathlib.Nat.{div-lt-iff-lt-mul, le-div-iff-mul-le, pow-suc, pow-zero, suc-mul, pow-succ', mul-assoc, mul-one, one-mul, mul-le-mul-right, lt-of-lt-of-le, le-trans}
 use native.Mathlib.Omega.{arith}
-use lib.Dec.{ltb, leb, eqb}
-use lib.IntN.{ℤ, pos, negsuc, negℤ, natAbs}
-use lib.ListN.{length, drop, length-append, length-drop}
-use borrow.Author.Tests.{ltb-true, eqb-true, eqb-false}
+use lib.Dec.{ltb, eqb}
+use lib.IntN.{pos, negℤ}
+use lib.ListN.{length, drop, length-append}
+use borrow.Author.Tests.{ltb-true}
 use Rattle.strlib.proofs.Refusing.{and-both}
 use Rattle.strlib.proofs.Pointing.{either}
 use Rattle.strlib.specs.Pointer.{all}

@@ -3,11 +3,11 @@
 use mathlib.Core.Path.{_≡_, refl, sym, ap, _∙_}
 use mathlib.Core.Bool.{Bool, true, false}
 use mathlib.Core.List.{List, [], _∷_}
-use Prim.Native.Nat.{ℕ, zero, suc, _+_, _-_, _*_, _≤_, _<_, min}
+use Prim.Native.Nat.{ℕ, _+_, _-_, _*_, _≤_, _<_, min}
 use native.Mathlib.Nat.{min-eq-left, min-eq-right, mul-le-mul-right}
 use native.Mathlib.Omega.{arith}
 use Rattle.strlib.proofs.Pointing.{either}
-use Rattle.strlib.specs.Refusal.{refused, outcome}
+use Rattle.strlib.specs.Refusal.{outcome}
 use Rattle.number.proofs.Ranging.{signed-out}
 use Rattle.number.specs.Text.{value, signed}
 use Rattle.number.specs.Inner.{reads}

@@ -3,6 +3,7 @@ pub mod Holding
 pub mod Reading
 pub mod Counting
 pub mod Writing
+pub mod Calling
 pub mod ReadBack
 pub mod RoundTrip
 pub mod Fewest

@@ -1,23 +1,23 @@
 -- The digits of a number read back as the number: by induction on how many there are, the last one being the remainder. Assumes nothing.
-use mathlib.Core.Path.{_≡_, refl, sym, ap, _∙_}
-use mathlib.Core.Bool.{Bool, true, false, _&&_, and-true}
+use mathlib.Core.Path.{_≡_, refl, _∙_}
+use mathlib.Core.Bool.{true, false, and-true}
 use mathlib.Core.List.{List, [], _∷_, _++_}
 use Prim.Native.Nat.{ℕ, zero, suc, _+_, _-_, _*_, _/_, _%_, _^_, _≤_, _<_}
 use native.Mathlib.Nat.{div-add-mod', mod-lt}
 use native.Mathlib.Omega.{arith}
-use lib.Dec.{leb, ltb}
-use lib.IntN.{ℤ, pos, negsuc, negℤ, natAbs}
-use lib.ListN.{length, drop, length-append}
+use lib.Dec.{leb}
+use lib.IntN.{pos, negℤ}
+use lib.ListN.{length, length-append}
 use borrow.Author.Tests.{lt-ltb, le-leb, ne-eqb}
 use Rattle.strlib.proofs.Refusing.{and-both}
 use Rattle.strlib.proofs.Pointing.{either}
 use Rattle.strlib.specs.Pointer.{all, characters}
-use Rattle.number.proofs.Ranging.{base-is, range-mag, abs-mag}
+use Rattle.number.proofs.Ranging.{base-is}
 use Rattle.number.proofs.Reading.{digit-is}
 use Rattle.number.proofs.Counting.{one-in, more-in, quotient-less}
-use Rattle.number.specs.Limits.{isBase, inRange}
+use Rattle.number.specs.Limits.{isBase}
 use Rattle.number.specs.Text.{unblanked, minus, unsigned, isDigit, areDigits, isNumber, value, signed, numberOf}
-use Rattle.number.specs.Written.{digitsIn, digits, sign, written}
+use Rattle.number.specs.Written.{digitsIn, digits}
 
 module _ (base : ℕ) where
   -- ds are digits, and their value is n

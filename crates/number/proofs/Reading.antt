@@ -1,8 +1,8 @@
 -- Laws of reading: each loop's rest reads as the whole does, and the call's answers follow from its checks. Assumes nothing.
-use mathlib.Core.Path.{_≡_, refl, sym, ap, _∙_}
-use mathlib.Core.Bool.{Bool, true, false, cond, _&&_, false≢true}
-use mathlib.Core.List.{List, [], _∷_, _++_}
-use Prim.Native.Nat.{ℕ, zero, suc, _+_, _-_, _*_, _≤_, _<_, min}
+use mathlib.Core.Path.{_≡_, refl, sym, _∙_}
+use mathlib.Core.Bool.{Bool, true, false, false≢true}
+use mathlib.Core.List.{List, [], _∷_}
+use Prim.Native.Nat.{ℕ, suc, _+_, _-_, _*_, _≤_, _<_, min}
 use native.Mathlib.Nat.{mul-le-mul}
 use native.Mathlib.Numerals.{add-one}
 use native.Mathlib.Omega.{arith}
@@ -14,17 +14,15 @@ use mir.Syntax.{w64}
 use mir.Val.{Fits}
 use borrow.Author.Needs.{needs}
 use borrow.Author.Tests.{leb-true, ltb-true, le-leb, lt-leb, lt-ltb, eq-eqb, ne-eqb}
-use Rattle.strlib.proofs.Refusing.{and-both, inTurn, first-is, first-before, first-behind, Passed, passed, outcome-no}
+use Rattle.strlib.proofs.Refusing.{and-both}
 use Rattle.strlib.proofs.Pointing.{leb-same}
-use Rattle.strlib.specs.Pointer.{all, storeFits, goodIn, textOf, readable}
+use Rattle.strlib.specs.Pointer.{all}
 use Rattle.strlib.specs.Refusal.{Outcome, refused, gives, outcome}
-use Rattle.strlib.specs.declared.StrPtr.{StrPtr}
 use Rattle.number.proofs.Ranging.{base-is}
 use Rattle.number.proofs.Holding.{held-reads}
 use Rattle.number.specs.Limits.{isBase, inRange}
 use Rattle.number.specs.Text.{unblanked, minus, unsigned, isDigit, areDigits, isNumber, value, signed, numberOf}
-use Rattle.number.specs.Number.{readChecks, readRefusal, readRule}
-use Rattle.number.specs.Inner.{unreadable, reads}
+use Rattle.number.specs.Inner.{reads}
 
 -- a slice from index i to its end
 pub rest-is : (s : List ℕ) (i : ℕ) → take (length s - i) (drop i s) ≡ drop i s
@@ -129,7 +127,7 @@ pub ruleset digits-laws = (needs, digit-told, range-given, range-refused, digits
 
 -- ---- the text
 
-module _ (base : ℕ) (s t : List ℕ) (b : Bool) (et : t ≡ unblanked s) (eb : b ≡ minus t) where
+module _ (t : List ℕ) (b : Bool) (eb : b ≡ minus t) where
   pub minus-some : b ≡ true → 1 ≤ length t
   unfolding minus
   minus-some e = go t (sym eb ∙ e)
@@ -138,45 +136,17 @@ module _ (base : ℕ) (s t : List ℕ) (b : Bool) (et : t ≡ unblanked s) (eb :
       go [] q = absurd (false≢true q)
       go (c ∷ cs) q = omega arith
 
-  pub text-minus : (a : Outcome ℤ) → b ≡ true
-      → a ≡ reads (areDigits base (take (length t - 1) (drop 1 t))) (signed true (value base 0 (take (length t - 1) (drop 1 t))))
-      → a ≡ reads (isNumber base s) (numberOf base s)
-  unfolding isNumber numberOf unsigned
-  text-minus a e h = rw (rest-is t 1) at h ∙ rw (← et, ← eb, e)
+  pub behind-minus : b ≡ true → take (length t - 1) (drop 1 t) ≡ unsigned t
+  unfolding unsigned
+  behind-minus e = rest-is t 1 ∙ rw (← eb, e)
 
-  pub text-plain : (a : Outcome ℤ) → b ≡ false
-      → a ≡ reads (areDigits base t) (signed false (value base 0 t)) → a ≡ reads (isNumber base s) (numberOf base s)
-  unfolding isNumber numberOf unsigned
-  text-plain a e h = h ∙ rw (← et, ← eb, e)
+  pub behind-none : b ≡ false → t ≡ unsigned t
+  unfolding unsigned
+  behind-none e = rw (← eb, e)
 
-pub ruleset text-laws = (needs, minus-some, text-minus, text-plain)
+pub text-reads : (base : ℕ) (s t ds : List ℕ) (b : Bool) (a : Outcome ℤ) → t ≡ unblanked s → b ≡ minus t → ds ≡ unsigned t
+    → a ≡ reads (areDigits base ds) (signed b (value base 0 ds)) → a ≡ reads (isNumber base s) (numberOf base s)
+unfolding isNumber numberOf
+text-reads base s t ds b a et eb ed h = h ∙ rw (ed, eb, et)
 
--- ---- the call
-
--- the checks before the text is looked at, and those of the text
-abbrev before : List ℕ → StrPtr → ℕ → List (ℕ × Bool)
-before s p base = (3, storeFits s) ∷ (3, isBase base) ∷ (1, goodIn (length s) p) ∷ (2, readable s p) ∷ []
-
-abbrev behind : List ℕ → ℕ → List (ℕ × Bool)
-behind t base = (7, isNumber base t) ∷ (8, inRange (numberOf base t)) ∷ []
-
-pub read-checked : (s : List ℕ) (p : StrPtr) (base k : ℕ) → k ≡ inTurn 0 (before s p base) → k ≡ unreadable s p base
-unfolding unreadable
-read-checked s p base k e = first-is (before s p base) refl k e
-
-module _ (s : List ℕ) (p : StrPtr) (base k : ℕ) (e : k ≡ unreadable s p base) where
-  pub read-refused : (k ≡ 0 → ⊥) → refused k ≡ readRule s p base
-  unfolding unreadable readRefusal readRule
-  read-refused h = outcome-no k (readRefusal s p base) (first-before (before s p base) (behind (textOf s p) base) k e h) (numberOf base (textOf s p)) h
-
-  pub read-base : k ≡ 0 → isBase base ≡ true
-  unfolding unreadable
-  read-base z = passed (before s p base) refl (sym e ∙ z) .1 .0
-
-  pub read-given : (t : List ℕ) (a : Outcome ℤ) → k ≡ 0 → t ≡ textOf s p → a ≡ reads (isNumber base t) (numberOf base t) → a ≡ readRule s p base
-  unfolding unreadable readRefusal readRule reads
-  read-given t a z et h =
-      let f = first-behind (before s p base) (behind (textOf s p) base) refl (sym e ∙ z) in
-      h ∙ rw et (ap (λ (m : ℕ). outcome m (numberOf base (textOf s p))) (sym f))
-
-pub ruleset read-laws = (needs, read-refused, read-base, read-given)
+pub ruleset text-laws = (needs, minus-some, behind-minus, behind-none, text-reads)

@@ -1,19 +1,18 @@
 -- The round trip: the text written is put at the destination's start, so that the returned pointer names it, and it reads as the number.
 -- Assumes nothing.
-use mathlib.Core.Path.{_≡_, refl, sym, ap, _∙_}
-use mathlib.Core.Bool.{Bool, true, false, _&&_}
-use mathlib.Core.List.{List, [], _∷_, _++_}
-use Prim.Native.Nat.{ℕ, zero, suc, _+_, _≤_, _<_}
+use mathlib.Core.Path.{_≡_, refl}
+use mathlib.Core.Bool.{true}
+use mathlib.Core.List.{List}
+use Prim.Native.Nat.{ℕ, suc, _+_, _≤_}
 use native.Mathlib.Omega.{arith}
-use lib.Dec.{leb}
-use lib.IntN.{ℤ, pos, negsuc, natAbs}
+use lib.IntN.{ℤ, pos, negsuc}
 use lib.ListN.{length}
 use borrow.Author.Tests.{leb-true, le-leb}
-use Rattle.strlib.proofs.Refusing.{Passed, passed, outcome-yes, ruled-gave}
+use Rattle.strlib.proofs.Refusing.{Passed, passed, ruled-gave}
 use Rattle.strlib.proofs.Pointing.{good-is, good-sized}
 use Rattle.strlib.proofs.Storing.{put-length, part-put}
 use Rattle.strlib.specs.Pointer.{sized, storeFits, goodIn, textOf, characters, readable, all}
-use Rattle.strlib.specs.Refusal.{gives, outcome, after, ruled}
+use Rattle.strlib.specs.Refusal.{gives, outcome, ruled}
 use Rattle.strlib.specs.Store.{put}
 use Rattle.strlib.specs.declared.StrPtr.{StrPtr}
 use Rattle.number.proofs.Ranging.{range-mag}

@@ -1,32 +1,25 @@
 -- Laws of writing: the digits put so far and those of the quotient make up the whole, and the call's answers follow from its checks.
 -- Assumes nothing.
-use mathlib.Core.Path.{_≡_, refl, sym, ap, _∙_}
-use mathlib.Core.Bool.{Bool, true, false, cond, true≢false}
+use mathlib.Core.Path.{_≡_, refl, _∙_}
+use mathlib.Core.Bool.{true, false, true≢false}
 use mathlib.Core.List.{List, [], _∷_, _++_}
-use Prim.Native.Nat.{ℕ, zero, suc, _+_, _-_, _/_, _%_, _≤_, _<_}
-use native.Mathlib.Nat.{mod-lt, div-le-self, div-lt-self}
+use Prim.Native.Nat.{ℕ, suc, _+_, _-_, _/_, _%_, _≤_, _<_}
+use native.Mathlib.Nat.{mod-lt, div-le-self}
 use native.Mathlib.Omega.{arith}
-use lib.Dec.{leb}
 use lib.IntN.{ℤ, pos, negsuc, natAbs}
-use lib.ListN.{length, set, length-set, length-append}
+use lib.ListN.{length, set, length-append}
 use lib.Signed.{ltZ}
 use mir.Syntax.{w64}
 use mir.Val.{Fits}
 use borrow.Author.Needs.{needs}
-use borrow.Author.Tests.{leb-true, le-leb, lt-leb, ltb-true}
-use Rattle.strlib.proofs.Refusing.{inTurn, first-is, first-before, first-behind, Passed, passed, ruled-no, ruled-yes}
-use Rattle.strlib.proofs.Pointing.{good-is}
+use borrow.Author.Tests.{ltb-true}
 use Rattle.strlib.proofs.Storing.{set-put, put-put, put-before}
-use Rattle.strlib.specs.Pointer.{sized, storeFits, goodIn}
-use Rattle.strlib.specs.Refusal.{refused, gives, ruled}
 use Rattle.strlib.specs.Store.{put}
-use Rattle.strlib.specs.declared.StrPtr.{StrPtr}
 use Rattle.number.proofs.Ranging.{base-is, range-mag, abs-mag}
 use Rattle.number.proofs.Counting.{digits-some, digits-few, digits-one, digits-more, base-some, quotient-smaller}
 use Rattle.number.specs.Limits.{isBase, inRange}
 use Rattle.number.specs.Written.{digits, sign, written}
-use Rattle.number.specs.Number.{writeChecks, writeRefusal, writeRule}
-use Rattle.number.specs.Inner.{unwritable, Countable, Room, TextRoom}
+use Rattle.number.specs.Inner.{Countable, Room, TextRoom}
 
 -- ---- digits, from the last to the first: m is the quotient so far and t the store, s the store at first
 
@@ -146,65 +139,3 @@ text-front base z count at size k = omega (arith, k .room, text-some base z coun
 
 pub ruleset text-laws =
     (needs, text-countable, length-fits, length-negative, length-plain, room-negative, room-plain, put-negative, put-plain, text-some, text-front)
-
--- ---- the call
-
--- the checks before the digits are counted
-abbrev before : List ℕ → StrPtr → ℤ → ℕ → List (ℕ × Bool)
-before s p z base = (3, storeFits s) ∷ (3, isBase base) ∷ (1, goodIn (length s) p) ∷ (8, inRange z) ∷ []
-
-pub write-checked : (s : List ℕ) (p : StrPtr) (z : ℤ) (base k : ℕ) → k ≡ inTurn 0 (before s p z base) → k ≡ unwritable s p z base
-unfolding unwritable
-write-checked s p z base k e = first-is (before s p z base) refl k e
-
-module _ (s : List ℕ) (p : StrPtr) (z z′ : ℤ) (base k : ℕ) (ez : z ≡ z′) (e : k ≡ unwritable s p z base) where
-  same : k ≡ unwritable s p z′ base
-  same = e ∙ rw ez
-
-  pub write-refused : (k ≡ 0 → ⊥) → (refused k, s) ≡ writeRule s p z′ base
-  unfolding unwritable writeRefusal writeRule
-  write-refused h =
-      ruled-no k (writeRefusal s p z′ base)
-      (first-before (before s p z′ base) ((6, leb (length (written base z′)) (p .maximum)) ∷ []) k same h)
-      (sized p (length (written base z′))) (put s (p .start) (written base z′)) s h
-
-  module _ (zero-found : k ≡ 0) where
-    ok : Passed (before s p z′ base)
-    unfolding unwritable
-    ok = passed (before s p z′ base) refl (sym same ∙ zero-found)
-
-    pub write-base : isBase base ≡ true
-    write-base = ok .1 .0
-
-    pub write-range : inRange z ≡ true
-    write-range = rw ez (ok .1 .1 .1 .0)
-
-    -- what is left is the room
-    room-is : writeRefusal s p z′ base ≡ cond (leb (length (written base z′)) (p .maximum)) 0 6
-    unfolding writeRefusal unwritable
-    room-is = first-behind (before s p z′ base) ((6, leb (length (written base z′)) (p .maximum)) ∷ []) refl (sym same ∙ zero-found)
-
-    module _ (count : ℕ) (ec : count ≡ length (written base z)) where
-      count-is : count ≡ length (written base z′)
-      count-is = ec ∙ rw ez
-
-      pub write-long : p .maximum < count → (refused 6, s) ≡ writeRule s p z′ base
-      unfolding writeRule
-      write-long h =
-          let r : writeRefusal s p z′ base ≡ 6 = room-is ∙ rw (← count-is, lt-leb count (p .maximum) h) in
-          ruled-no 6 (writeRefusal s p z′ base) (sym r) (sized p (length (written base z′))) (put s (p .start) (written base z′)) s (λ q. omega arith)
-
-      pub write-room : count ≤ p .maximum → TextRoom base z count (p .start) (length s)
-      write-room h =
-          let g = good-is (length s) p (ok .1 .1 .0) in
-          record { based = write-base; ranged = write-range; counted = ec; room = omega arith }
-
-      pub write-given : (q : StrPtr) (t : List ℕ) → count ≤ p .maximum → q ≡ sized p count → t ≡ put s (p .start) (written base z)
-          → (gives q, t) ≡ writeRule s p z′ base
-      unfolding writeRule
-      write-given q t h eq et =
-          let r : writeRefusal s p z′ base ≡ 0 = room-is ∙ rw (← count-is, le-leb count (p .maximum) h) in
-          ruled-yes 0 (writeRefusal s p z′ base) (sym r) q (sized p (length (written base z′))) t (put s (p .start) (written base z′)) s
-          refl (eq ∙ rw count-is) (et ∙ rw ez)
-
-pub ruleset write-laws = (needs, write-refused, write-base, write-range, write-long, write-room, write-given)

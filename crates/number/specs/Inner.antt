@@ -12,16 +12,22 @@ use Rattle.number.specs.Limits.{isBase, inRange}
 use Rattle.number.specs.Written.{digits, written}
 
 -- the checks of a reading that are made before its text is looked at
+abbrev pub beforeText : List ℕ → StrPtr → ℕ → List (ℕ × Bool)
+beforeText s p base = (3, storeFits s) ∷ (3, isBase base) ∷ (1, goodIn (length s) p) ∷ (2, readable s p) ∷ []
+
 unfoldable pub unreadable : List ℕ → StrPtr → ℕ → ℕ
-unreadable s p base = first ((3, storeFits s) ∷ (3, isBase base) ∷ (1, goodIn (length s) p) ∷ (2, readable s p) ∷ [])
+unreadable s p base = first (beforeText s p base)
 
 -- what a text reads as: refusal 7 where it is no number, else 8 where its number is out of range
 unfoldable pub reads : Bool → ℤ → Outcome ℤ
 reads formed z = outcome (first ((7, formed) ∷ (8, inRange z) ∷ [])) z
 
 -- the checks of a writing that are made before its digits are counted
+abbrev pub beforeDigits : List ℕ → StrPtr → ℤ → ℕ → List (ℕ × Bool)
+beforeDigits s p z base = (3, storeFits s) ∷ (3, isBase base) ∷ (1, goodIn (length s) p) ∷ (8, inRange z) ∷ []
+
 unfoldable pub unwritable : List ℕ → StrPtr → ℤ → ℕ → ℕ
-unwritable s p z base = first ((3, storeFits s) ∷ (3, isBase base) ∷ (1, goodIn (length s) p) ∷ (8, inRange z) ∷ [])
+unwritable s p z base = first (beforeDigits s p z base)
 
 -- a number whose digits can be counted
 pub record Countable (base n : ℕ) : Type 0 where

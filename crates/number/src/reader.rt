@@ -6,13 +6,14 @@ ghost use mathlib.Core.Path.{_≡_};
 ghost use mathlib.Core.Bool.{true};
 ghost use Prim.Native.Nat.{_+_, _-_, _*_, _≤_, min};
 ghost use Rattle.number.specs.Limits.{isBase};
-ghost use Rattle.number.specs.Text.{unblanked, minus, isDigit, areDigits, isNumber, value, signed, numberOf};
+ghost use Rattle.number.specs.Text.{unblanked, minus, unsigned, isDigit, areDigits, isNumber, value, signed, numberOf};
 ghost use Rattle.number.specs.Number.{numberAnswered, readRule};
 ghost use Rattle.number.specs.Inner.{unreadable, reads};
 
 // 2^36: out of range with either sign. A value is held here once it is more, while the digits go on.
 const HELD: usize = 68719476736;
 
+// What stands behind the blanks in front.
 fn unblanked(text: &[u8]) -> &[u8]
     ensures { λ r. ⌜ now r ≡ unblanked (now (text .entry)) ⌝ }
 {
@@ -33,6 +34,16 @@ fn has_minus(text: &[u8]) -> bool
         return false;
     }
     text[0] == b'-'
+}
+
+// What stands behind an optional minus.
+fn unsigned(text: &[u8]) -> &[u8]
+    ensures { λ r. ⌜ now r ≡ unsigned (now (text .entry)) ⌝ }
+{
+    if has_minus(text) {
+        return &text[1..];
+    }
+    text
 }
 
 fn is_digit(c: u8, base: usize) -> bool
@@ -96,10 +107,7 @@ fn read_text(text: &[u8], base: usize) -> NumberAnswer
     ensures { λ r. ⌜ numberAnswered r ≡ reads (isNumber base (now (text .entry))) (numberOf base (now (text .entry))) ⌝ }
 {
     let rest = unblanked(text);
-    if has_minus(rest) {
-        return read_digits(true, &rest[1..], base);
-    }
-    read_digits(false, rest, base)
+    read_digits(has_minus(rest), unsigned(rest), base)
 }
 
 fn read_refusal(store: &[u8], string: StrPtr, base: usize) -> u8

@@ -1,4 +1,4 @@
-use Rattle.number.proofs.Reading.{read-laws}
+use Rattle.number.proofs.Calling.{read-laws}
 use Rattle.number.proofs.reader.read.Statement.{statement}
 use Rattle.number.proofs.reader.read.Tie as tie
 

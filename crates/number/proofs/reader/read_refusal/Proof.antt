@@ -1,4 +1,4 @@
-use Rattle.number.proofs.Reading.{read-checked}
+use Rattle.number.proofs.Calling.{read-checked}
 use Rattle.number.proofs.reader.read_refusal.Statement.{statement}
 use Rattle.number.proofs.reader.read_refusal.Tie as tie
 

@@ -8,10 +8,6 @@ read-text-spec =
     (tie.spec
     (λ c κs. tt)
     (λ c κs. tt)
-    (λ c. search text-laws)
-    (λ c. search text-laws)
-    (λ c. search text-laws)
-    (λ c κs. search text-laws)
-    (λ c. search text-laws)
+    (λ c κs. tt)
     (λ c κs. search text-laws)
     (λ c. search text-laws))

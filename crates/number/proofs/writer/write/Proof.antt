@@ -1,4 +1,4 @@
-use Rattle.number.proofs.Writing.{write-laws}
+use Rattle.number.proofs.Calling.{write-laws}
 use Rattle.number.proofs.writer.write.Statement.{statement}
 use Rattle.number.proofs.writer.write.Tie as tie
 

@@ -1,5 +1,5 @@
 use mir.Facts.{toZ-ofZ}
-use Rattle.number.proofs.Writing.{write-checked}
+use Rattle.number.proofs.Calling.{write-checked}
 use Rattle.number.proofs.writer.write_refusal.Statement.{statement}
 use Rattle.number.proofs.writer.write_refusal.Tie as tie
 

@@ -7,3 +7,4 @@ pub mod Calling
 pub mod ReadBack
 pub mod RoundTrip
 pub mod Fewest
+pub mod Goodness

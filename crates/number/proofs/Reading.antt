@@ -1,4 +1,4 @@
--- Laws of reading: each loop's rest reads as the whole does, and the call's answers follow from its checks. Assumes nothing.
+-- Laws of reading a text: what is left of it at any turn of a loop reads as the whole does. Assumes nothing.
 use mathlib.Core.Path.{_≡_, refl, sym, _∙_}
 use mathlib.Core.Bool.{Bool, true, false, false≢true}
 use mathlib.Core.List.{List, [], _∷_}

@@ -1,5 +1,4 @@
--- Laws of writing: the digits put so far and those of the quotient make up the whole, and the call's answers follow from its checks.
--- Assumes nothing.
+-- Laws of writing a text: the digits put so far and those of the quotient make up the whole. Assumes nothing.
 use mathlib.Core.Path.{_≡_, refl, _∙_}
 use mathlib.Core.Bool.{true, false, true≢false}
 use mathlib.Core.List.{List, [], _∷_, _++_}

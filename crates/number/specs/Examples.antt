@@ -46,8 +46,11 @@ pub record Examples : Type 0 where
   pub two-in-two : read 2 (49 ∷ 50 ∷ []) ≡ refused 7
   pub base-one : read 1 (48 ∷ []) ≡ refused 3
   pub base-eleven : read 11 (48 ∷ []) ≡ refused 3
-  -- 31 into the room, and −31 in base 2, which is one too long; a byte past the length stays
+  -- 31 into the room: every byte past the length stays
   pub write : writeRule store (pointer 1 0 5) (pos 31) 10 ≡ (gives (pointer 1 2 5), 120 ∷ 51 ∷ 49 ∷ 51 ∷ 52 ∷ 53 ∷ 200 ∷ [])
+  -- the destination is not read: neither its old length nor a byte over 127 in it counts
+  pub not-read : writeRule store (pointer 1 6 6) (pos 31) 10 ≡ (gives (pointer 1 2 6), 120 ∷ 51 ∷ 49 ∷ 51 ∷ 52 ∷ 53 ∷ 200 ∷ [])
+  -- −15 in base 2 fills the room, −31 is one too long
   pub fits : writeRule store (pointer 1 0 5) (negsuc 14) 2 ≡ (gives (pointer 1 5 5), 120 ∷ 45 ∷ 49 ∷ 49 ∷ 49 ∷ 49 ∷ 200 ∷ [])
   pub too-long : writeRule store (pointer 1 0 5) (negsuc 30) 2 ≡ (refused 6, store)
   -- 8 goes before 6
@@ -78,6 +81,7 @@ examples =
       base-one = refl;
       base-eleven = refl;
       write = refl;
+      not-read = refl;
       fits = refl;
       too-long = refl;
       out-of-range = refl;

@@ -29,7 +29,7 @@ beforeDigits s p z base = (3, storeFits s) ∷ (3, isBase base) ∷ (1, goodIn (
 unfoldable pub unwritable : List ℕ → StrPtr → ℤ → ℕ → ℕ
 unwritable s p z base = first (beforeDigits s p z base)
 
--- a number whose digits can be counted
+-- a number under 2^36, whose digits can be counted
 pub record Countable (base n : ℕ) : Type 0 where
   pub based : isBase base ≡ true
   pub small : n < 68719476736

@@ -31,7 +31,7 @@ pub record RoundTrip : Type 0 where
 
 -- the digits written are the fewest
 pub record Fewest : Type 0 where
-  -- no digit 0 in front, unless the number is 0
+  -- no digit 0 (48) in front, unless the number is 0
   pub leading : (base n : ℕ) (ds : List ℕ) → isBase base ≡ true → n < 68719476736 → digits base n ≡ 48 ∷ ds → n ≡ 0
   -- no text that reads as the number is shorter
   pub shortest : (base : ℕ) (cs : List ℕ) → isBase base ≡ true → isNumber base cs ≡ true

@@ -55,7 +55,7 @@ fn is_digit(c: u8, base: usize) -> bool
     ((c - b'0') as usize) < base
 }
 
-// The value with one digit more.
+// The value with one digit more, held at 2^36.
 fn next(v: usize, base: usize, c: u8) -> usize
     requires { ⌜ (v ≤ 68719476736) × (isBase base ≡ true) × (isDigit base c ≡ true) ⌝ }
     ensures { λ r. ⌜ r ≡ min (v * base + (c - 48)) 68719476736 ⌝ }
@@ -81,6 +81,7 @@ fn ranged(z: i64) -> NumberAnswer
     }
 }
 
+// The number of these digits, or refusal 7 or 8.
 fn read_digits(negative: bool, digits: &[u8], base: usize) -> NumberAnswer
     requires { ⌜ isBase base ≡ true ⌝ }
     ensures { λ r. ⌜ numberAnswered r ≡ reads (areDigits base (now (digits .entry))) (signed negative (value base 0 (now (digits .entry)))) ⌝ }

@@ -25,6 +25,7 @@ fn magnitude(value: i64) -> usize
     }
 }
 
+// How many digits n has.
 fn count_digits(n: usize, base: usize) -> usize
     requires { ⌜ Countable base n ⌝ }
     ensures { λ r. ⌜ r ≡ length (digits base n) ⌝ }
@@ -38,6 +39,7 @@ fn count_digits(n: usize, base: usize) -> usize
     count
 }
 
+// How many characters a number takes.
 fn text_length(value: i64, base: usize) -> usize
     requires { ⌜ (isBase base ≡ true) × (inRange value ≡ true) ⌝ }
     ensures { λ r. ⌜ r ≡ length (written base value) ⌝ }
@@ -53,7 +55,7 @@ fn digit(d: usize) -> u8
     b'0' + (d as u8)
 }
 
-// The digits of n, from the last to the first.
+// Puts the digits of n, `count` of them, from index `at` on: the last one first.
 fn put_digits(store: &mut [u8], at: usize, n: usize, base: usize, count: usize)
     requires { ⌜ Room base n count at (length (now store)) ⌝ }
     ensures { λ _. ⌜ now (store .exit) ≡ put (now (store .entry)) at (digits base n) ⌝ }
@@ -68,6 +70,7 @@ fn put_digits(store: &mut [u8], at: usize, n: usize, base: usize, count: usize)
     store[at] = digit(m);
 }
 
+// Puts the text of a number, `count` characters, from index `at` on.
 fn put_number(store: &mut [u8], at: usize, value: i64, base: usize, count: usize)
     requires { ⌜ TextRoom base value count at (length (now store)) ⌝ }
     ensures { λ _. ⌜ now (store .exit) ≡ put (now (store .entry)) at (written base value) ⌝ }

@@ -15,6 +15,7 @@ use Rattle.number.specs.Written.{digits, written}
 abbrev pub beforeText : List ℕ → StrPtr → ℕ → List (ℕ × Bool)
 beforeText s p base = (3, storeFits s) ∷ (3, isBase base) ∷ (1, goodIn (length s) p) ∷ (2, readable s p) ∷ []
 
+-- the refusal that they find, 0 for none
 unfoldable pub unreadable : List ℕ → StrPtr → ℕ → ℕ
 unreadable s p base = first (beforeText s p base)
 
@@ -26,6 +27,7 @@ reads formed z = outcome (first ((7, formed) ∷ (8, inRange z) ∷ [])) z
 abbrev pub beforeDigits : List ℕ → StrPtr → ℤ → ℕ → List (ℕ × Bool)
 beforeDigits s p z base = (3, storeFits s) ∷ (3, isBase base) ∷ (1, goodIn (length s) p) ∷ (8, inRange z) ∷ []
 
+-- the refusal that they find, 0 for none
 unfoldable pub unwritable : List ℕ → StrPtr → ℤ → ℕ → ℕ
 unwritable s p z base = first (beforeDigits s p z base)
 

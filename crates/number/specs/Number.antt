@@ -22,6 +22,7 @@ numberAnswered (Refused n) = refused n
 
 -- ---- reading
 
+-- the checks of a reading, in their order
 abbrev pub readChecks : List ℕ → StrPtr → ℕ → List (ℕ × Bool)
 readChecks s p base =
     (3, storeFits s) ∷ (3, isBase base)
@@ -30,14 +31,17 @@ readChecks s p base =
     ∷ (7, isNumber base (textOf s p))
     ∷ (8, inRange (numberOf base (textOf s p))) ∷ []
 
+-- its refusal, 0 for none
 unfoldable pub readRefusal : List ℕ → StrPtr → ℕ → ℕ
 readRefusal s p base = first (readChecks s p base)
 
+-- its answer: the number that the string says
 unfoldable pub readRule : List ℕ → StrPtr → ℕ → Outcome ℤ
 readRule s p base = outcome (readRefusal s p base) (numberOf base (textOf s p))
 
--- ---- writing: the destination is not read, and 6 goes by its maximum
+-- ---- writing
 
+-- the checks of a writing, in their order: the destination is not read, and 6 goes by its maximum
 abbrev pub writeChecks : List ℕ → StrPtr → ℤ → ℕ → List (ℕ × Bool)
 writeChecks s p z base =
     (3, storeFits s) ∷ (3, isBase base)
@@ -45,10 +49,11 @@ writeChecks s p z base =
     ∷ (8, inRange z)
     ∷ (6, leb (length (written base z)) (p .maximum)) ∷ []
 
+-- its refusal, 0 for none
 unfoldable pub writeRefusal : List ℕ → StrPtr → ℤ → ℕ → ℕ
 writeRefusal s p z base = first (writeChecks s p z base)
 
--- the answer, and the store: the text from the destination's start on, the length set, every byte past it as it was
+-- its answer, and the store afterwards: the text from the destination's start on, the length set, every byte past it as it was
 unfoldable pub writeRule : List ℕ → StrPtr → ℤ → ℕ → Outcome StrPtr × List ℕ
 writeRule s p z base =
     ruled (writeRefusal s p z base) (sized p (length (written base z))) (put s (p .start) (written base z)) s

@@ -29,6 +29,7 @@ isDigit base c = leb 48 c && ltb c (48 + base)
 unfoldable pub areDigits : ℕ → List ℕ → Bool
 areDigits base cs = ltb 0 (length cs) && all (isDigit base) cs
 
+-- blanks, an optional minus, digits: the whole text
 unfoldable pub isNumber : ℕ → List ℕ → Bool
 isNumber base cs = areDigits base (unsigned (unblanked cs))
 
@@ -41,5 +42,6 @@ value base v (c ∷ cs) = value base (v * base + (c - 48)) cs
 unfoldable pub signed : Bool → ℕ → ℤ
 signed negative n = cond negative (negℤ (pos n)) (pos n)
 
+-- the number that such a text says
 unfoldable pub numberOf : ℕ → List ℕ → ℤ
 numberOf base cs = signed (minus (unblanked cs)) (value base 0 (unsigned (unblanked cs)))

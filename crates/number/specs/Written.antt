@@ -19,5 +19,6 @@ unfoldable pub sign : ℤ → List ℕ
 sign (pos n) = []
 sign (negsuc n) = 45 ∷ []
 
+-- the text of a number
 unfoldable pub written : ℕ → ℤ → List ℕ
 written base z = sign z ++ digits base (natAbs z)

@@ -2,7 +2,7 @@
 -- Assumes nothing.
 use mathlib.Core.Path.{_≡_, refl, sym, ap, _∙_}
 use mathlib.Core.Bool.{Bool, true, false, cond, _&&_, false≢true}
-use mathlib.Core.List.{List, [], _∷_}
+use mathlib.Core.List.{List, [], _∷_, _++_}
 use Prim.Native.Nat.{ℕ, zero, suc, _<_}
 use native.Mathlib.Omega.{arith}
 use lib.Dec.{ltb}
@@ -82,6 +82,23 @@ passed (c ∷ cs) h e =
     let b = and-both (ltb 0 (c .0)) (numbered cs) h in
     let p = pass-one (c .0) (c .1) (first cs) (ltb-true 0 (c .0) (b .0)) e in
     (p .0, passed cs (b .1) (p .1))
+
+-- ---- checks made in two stages: those behind count only where those before found nothing
+
+pub first-before : (cs ds : List (ℕ × Bool)) (k : ℕ) → k ≡ first cs → (k ≡ 0 → ⊥) → k ≡ first (cs ++ ds)
+first-before [] ds k e h = absurd (h e)
+first-before (c ∷ cs) ds k e h = go (c .1) (λ f. first-before cs ds k f h) e
+  where
+    go : (ok : Bool) → (k ≡ first cs → k ≡ first (cs ++ ds)) → k ≡ cond ok (first cs) (c .0) → k ≡ cond ok (first (cs ++ ds)) (c .0)
+    go true f g = f g
+    go false f g = g
+
+pub first-behind : (cs ds : List (ℕ × Bool)) → numbered cs ≡ true → first cs ≡ 0 → first (cs ++ ds) ≡ first ds
+first-behind [] ds h e = refl
+first-behind (c ∷ cs) ds h e =
+    let b = and-both (ltb 0 (c .0)) (numbered cs) h in
+    let p = pass-one (c .0) (c .1) (first cs) (ltb-true 0 (c .0) (b .0)) e in
+    rw (p .0) (first-behind cs ds (b .1) (p .1))
 
 -- ---- the answer, and what was lent
 

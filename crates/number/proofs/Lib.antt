@@ -1,0 +1,10 @@
+pub mod Ranging
+pub mod Holding
+pub mod Reading
+pub mod Counting
+pub mod Writing
+pub mod Calling
+pub mod ReadBack
+pub mod RoundTrip
+pub mod Fewest
+pub mod Goodness

@@ -1,0 +1,14 @@
+use Rattle.number.proofs.Calling.{read-checked}
+use Rattle.number.proofs.reader.read_refusal.Statement.{statement}
+use Rattle.number.proofs.reader.read_refusal.Tie as tie
+
+pub read-refusal-spec : {M : Type 1} → statement M
+read-refusal-spec =
+    tie.close
+    (tie.spec
+    (λ c κs. tt)
+    (λ c κs. tt)
+    (λ c κs. tt)
+    (λ c κs. tt)
+    (λ c κs. tt)
+    (λ c. read-checked _ _ _ _ (cc)))

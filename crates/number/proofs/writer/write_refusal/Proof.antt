@@ -1,0 +1,16 @@
+use mir.Facts.{toZ-ofZ}
+use Rattle.number.proofs.Calling.{write-checked}
+use Rattle.number.proofs.writer.write_refusal.Statement.{statement}
+use Rattle.number.proofs.writer.write_refusal.Tie as tie
+
+pub write-refusal-spec : {M : Type 1} → statement M
+write-refusal-spec =
+    tie.close
+    (tie.spec
+    (λ c κs. tt)
+    (λ c κs. tt)
+    (λ c κs. tt)
+    (λ c κs. tt)
+    (λ c κs. tt)
+    (λ c κs. tt)
+    (λ c. write-checked _ _ _ _ _ (cc (toZ-ofZ (c .before .before .before .before .before .before .before .fits .value)))))

@@ -1,0 +1,59 @@
+-- The two calls: 01, "Numbers" and "Refusal numbers". Assumes nothing.
+use Prim.Native.Nat.{ℕ}
+use mathlib.Core.Bool.{Bool}
+use mathlib.Core.List.{List, [], _∷_}
+use lib.Dec.{leb}
+use lib.IntN.{ℤ}
+use lib.ListN.{length}
+use Rattle.strlib.specs.Pointer.{sized, storeFits, goodIn, textOf, readable}
+use Rattle.strlib.specs.Refusal.{Outcome, refused, gives, first, outcome, ruled}
+use Rattle.strlib.specs.Store.{put}
+use Rattle.strlib.specs.declared.StrPtr.{StrPtr}
+use Rattle.number.specs.Limits.{isBase, inRange}
+use Rattle.number.specs.Text.{isNumber, numberOf}
+use Rattle.number.specs.Written.{written}
+use Rattle.number.specs.declared.NumberAnswer.{NumberAnswer}
+use Rattle.number.specs.declared.NumberAnswer.the-variants.{Given, Refused}
+
+-- the paper's value for each case of the answer
+abbrev pub numberAnswered : NumberAnswer → Outcome ℤ
+numberAnswered (Given z) = gives z
+numberAnswered (Refused n) = refused n
+
+-- ---- reading
+
+-- the checks of a reading, in their order
+abbrev pub readChecks : List ℕ → StrPtr → ℕ → List (ℕ × Bool)
+readChecks s p base =
+    (3, storeFits s) ∷ (3, isBase base)
+    ∷ (1, goodIn (length s) p)
+    ∷ (2, readable s p)
+    ∷ (7, isNumber base (textOf s p))
+    ∷ (8, inRange (numberOf base (textOf s p))) ∷ []
+
+-- its refusal, 0 for none
+unfoldable pub readRefusal : List ℕ → StrPtr → ℕ → ℕ
+readRefusal s p base = first (readChecks s p base)
+
+-- its answer: the number that the string says
+unfoldable pub readRule : List ℕ → StrPtr → ℕ → Outcome ℤ
+readRule s p base = outcome (readRefusal s p base) (numberOf base (textOf s p))
+
+-- ---- writing
+
+-- the checks of a writing, in their order: the destination is not read, and 6 goes by its maximum
+abbrev pub writeChecks : List ℕ → StrPtr → ℤ → ℕ → List (ℕ × Bool)
+writeChecks s p z base =
+    (3, storeFits s) ∷ (3, isBase base)
+    ∷ (1, goodIn (length s) p)
+    ∷ (8, inRange z)
+    ∷ (6, leb (length (written base z)) (p .maximum)) ∷ []
+
+-- its refusal, 0 for none
+unfoldable pub writeRefusal : List ℕ → StrPtr → ℤ → ℕ → ℕ
+writeRefusal s p z base = first (writeChecks s p z base)
+
+-- its answer, and the store afterwards: the text from the destination's start on, the length set, every byte past it as it was
+unfoldable pub writeRule : List ℕ → StrPtr → ℤ → ℕ → Outcome StrPtr × List ℕ
+writeRule s p z base =
+    ruled (writeRefusal s p z base) (sized p (length (written base z))) (put s (p .start) (written base z)) s

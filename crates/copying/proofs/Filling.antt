@@ -4,22 +4,22 @@
 use mathlib.Core.Path.{_≡_, refl, sym, ap, _∙_}
 use mathlib.Core.Bool.{Bool, true, false}
 use mathlib.Core.List.{List, [], _∷_, _++_}
-use Prim.Native.Nat.{ℕ, _+_, _-_, _≤_, _<_, min, max}
+use Prim.Native.Nat.{ℕ, _+_, _-_, _≤_, _<_, min}
 use native.Mathlib.Nat.{sub-zero}
 use native.Mathlib.Omega.{arith}
 use lib.Dec.{leb, ltb}
-use lib.ListN.{length, take, drop, getD, length-take, length-drop, length-append, take-append-drop}
+use lib.ListN.{length, take, drop, getD, length-take, length-drop, length-append}
 use lib.Seq.{drop-drop, take-all, take-add, take-take, take-append-le, drop-append-le, drop-at, getD-take}
 use mir.Syntax.{w64}
 use mir.Val.{Fits}
 use borrow.Author.Needs.{needs}
-use borrow.Author.Tests.{leb-true, le-leb, lt-leb, lt-ltb, le-ltb}
-use Rattle.strlib.specs.Pointer.{sized, goodIn, textOf, apart, clear, all}
+use borrow.Author.Tests.{le-leb, lt-leb, lt-ltb, le-ltb}
+use Rattle.strlib.specs.Pointer.{sized, goodIn, textOf, clear, all}
 use Rattle.strlib.specs.Store.{put}
 use Rattle.strlib.specs.declared.StrPtr.{StrPtr}
-use Rattle.strlib.proofs.Pointing.{either, good-is, text-length}
+use Rattle.strlib.proofs.Pointing.{good-is, text-length}
 use Rattle.strlib.proofs.Listing.{prefix-cons, prefix-end, all-at}
-use Rattle.strlib.proofs.Storing.{drop-take, put-none, put-put, put-length, part-before, part-after}
+use Rattle.strlib.proofs.Storing.{drop-take, put-none, put-put, put-length}
 use Rattle.moving.specs.Moving.{moved}
 use Rattle.moving.proofs.Moving.{moved-in}
 use Rattle.copying.specs.Copying.{texts, joined}
@@ -28,6 +28,7 @@ use Rattle.copying.specs.Helpers.{Next, movedNext, Resumable}
 use Rattle.copying.specs.declared.Place.{Place}
 use Rattle.copying.specs.declared.Round.{Round}
 use Rattle.copying.proofs.Texts.{texts-long, texts-drop, joined-drop, before-add}
+use Rattle.copying.proofs.Keeping.{text-kept}
 use Rattle.copying.proofs.Placing.{length-in, place-skip}
 
 -- ---- moving the next characters of a source
@@ -53,6 +54,11 @@ module _ (s : List ℕ) (destination : StrPtr) (n : ℕ) (source : StrPtr) (q : 
 pub ruleset next-laws = (needs, next-from, next-to, next-size, next-place, next-done)
 
 -- ---- the loop
+
+-- a part of a string, by its place in the store
+part-text : (s : List ℕ) (p : StrPtr) (q m : ℕ) → q + m ≤ p .length → take m (drop (p .start + q) s) ≡ take m (drop q (textOf s p))
+unfolding textOf
+part-text s p q m h = sym (rw (drop-take, take-take m (p .length - q) (drop q (drop (p .start) s)) (omega arith), drop-drop))
 
 -- n characters are written, and what is left starts behind q characters of the string of index i
 pub record Filling (s t : List ℕ) (destination : StrPtr) (list : List StrPtr) (count first skip n i q : ℕ) : Type 0 where
@@ -136,9 +142,8 @@ module _ (s t : List ℕ) (destination : StrPtr) (list : List StrPtr) (count fir
     part : (x .length ≤ x .maximum) × (x .start + x .maximum ≤ length s)
     part = good-is (length s) x x-good
 
-    far : min (x .start + x .length) (destination .start + destination .maximum) ≤ max (x .start) (destination .start)
-    unfolding clear apart
-    far = leb-true _ _ (rw (getD-take count list i d h) at (all-at (clear destination) (take count list) i d (F .given .apart) inside))
+    x-clear : clear destination x ≡ true
+    x-clear = rw (getD-take count list i d h) at (all-at (clear destination) (take count list) i d (F .given .apart) inside)
 
     text : length (textOf s x) ≡ x .length
     text = text-length s x x-good
@@ -185,29 +190,18 @@ module _ (s t : List ℕ) (destination : StrPtr) (list : List StrPtr) (count fir
       unfolding movedNext
       et = ap (λ (z : ℕ × List ℕ). z .1) e ∙ rw (← em)
 
-      -- the source is as it was
-      source : take m (drop (x .start + q) t) ≡ take m (drop (x .start + q) s)
-      source =
+      -- what is moved is the next of what is left: no write has changed the source
+      taken : take m (drop (x .start + q) t) ≡ take m (drop n what)
+      unfolding joined
+      taken =
           let v : List ℕ = take n what in
           let l : length v ≡ n = rw length-take (omega (arith, F .few)) in
-          let a : destination .start ≤ length s = omega (arith, room) in
-          rw (F .bytes)
-          (either (x .start + q + m) (destination .start)
-          (λ (k : x .start + q + m ≤ destination .start). part-before s (destination .start) v a (x .start + q) m k)
-          (λ (k : destination .start < x .start + q + m).
-          either (destination .start + length v) (x .start + q)
-          (λ (j : destination .start + length v ≤ x .start + q). part-after s (destination .start) v a (x .start + q) m j)
-          (λ (j : x .start + q < destination .start + length v). let z : m ≡ 0 = omega (arith, em, far, F .size, fill-sub) in rw z)))
-
-      -- what is moved is the next of what is left
-      taken : take m (drop (x .start + q) s) ≡ take m (drop n what)
-      unfolding joined textOf
-      taken =
+          let kept : textOf t x ≡ textOf s x = rw (F .bytes) (text-kept s destination x v (F .given .room) x-clear (omega (arith, F .size))) in
           let b : m ≤ length (drop q (textOf s x)) = rw (length-drop, text) (omega (arith, em)) in
-          let a : take m (drop q (textOf s x)) ≡ take m (drop (x .start + q) s) =
-          rw (drop-take, take-take m (x .length - q) (drop q (drop (x .start) s)) (omega (arith, em)), drop-drop) in
-          sym (ap (take m) (F .left)
-          ∙ rw (cons, drop-append-le q (textOf s x) (joined (drop (i + 1) xss)) (omega (arith, text, fill-sub)), take-append-le m (drop q (textOf s x)) (joined (drop (i + 1) xss)) b) a)
+          part-text t x q m (omega (arith, em, fill-sub))
+          ∙ rw kept
+          (sym (ap (take m) (F .left)
+          ∙ rw (cons, drop-append-le q (textOf s x) (joined (drop (i + 1) xss)) (omega (arith, text, fill-sub)), take-append-le m (drop q (textOf s x)) (joined (drop (i + 1) xss)) b)))
 
       -- m characters are moved
       fill-more : Filling s t′ destination list count first skip (n + m) i (q + m)
@@ -229,7 +223,7 @@ module _ (s t : List ℕ) (destination : StrPtr) (list : List StrPtr) (count fir
             long = g ∙ F .long;
             size = omega (arith, em, F .size);
             few = omega (arith, em, F .few, rest-long, behind-long, fill-sub);
-            bytes = p ∙ rw (source, taken, F .bytes, take-add n m what) (rw l at pp);
+            bytes = p ∙ rw (taken, F .bytes, take-add n m what) (rw l at pp);
             left = sym (drop-drop m n what) ∙ ap (drop m) (F .left) ∙ drop-drop m q behind;
             next = F .next ∙ rw f;
           }

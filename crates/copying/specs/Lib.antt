@@ -1,3 +1,4 @@
 pub mod Copying
 pub mod Resuming
+pub mod RoundRule
 pub mod Helpers

@@ -2,3 +2,4 @@ pub mod Copying
 pub mod Resuming
 pub mod RoundRule
 pub mod Helpers
+pub mod Examples

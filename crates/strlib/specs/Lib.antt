@@ -1,3 +1,4 @@
 pub mod Pointer
+pub mod Quoted
 pub mod Refusal
 pub mod Store

@@ -22,13 +22,13 @@ use Rattle.strlib.proofs.Listing.{prefix-cons, prefix-end, all-at}
 use Rattle.strlib.proofs.Storing.{drop-take, put-none, put-put, put-length}
 use Rattle.moving.specs.Moving.{moved}
 use Rattle.moving.proofs.Moving.{moved-in}
+use Rattle.moving.proofs.Keeping.{text-kept}
 use Rattle.copying.specs.Copying.{texts, joined}
 use Rattle.copying.specs.Resuming.{lengthAt, before, placeAt, piece, completes, nextPlace, roundOf, resumed}
 use Rattle.copying.specs.Helpers.{Next, movedNext, Resumable}
 use Rattle.copying.specs.declared.Place.{Place}
 use Rattle.copying.specs.declared.Round.{Round}
 use Rattle.copying.proofs.Texts.{texts-long, texts-drop, joined-drop, before-add}
-use Rattle.copying.proofs.Keeping.{text-kept}
 use Rattle.copying.proofs.Placing.{length-in, place-skip}
 
 -- ---- moving the next characters of a source
@@ -196,7 +196,7 @@ module _ (s t : List ℕ) (destination : StrPtr) (list : List StrPtr) (count fir
       taken =
           let v : List ℕ = take n what in
           let l : length v ≡ n = rw length-take (omega (arith, F .few)) in
-          let kept : textOf t x ≡ textOf s x = rw (F .bytes) (text-kept s destination x v (F .given .room) x-clear (omega (arith, F .size))) in
+          let kept : textOf t x ≡ textOf s x = rw (F .bytes) (text-kept s destination x (destination .start) v (F .given .room) x-clear (omega arith) (omega (arith, F .size))) in
           let b : m ≤ length (drop q (textOf s x)) = rw (length-drop, text) (omega (arith, em)) in
           part-text t x q m (omega (arith, em, fill-sub))
           ∙ rw kept

@@ -1,6 +1,5 @@
 pub mod Padding
 pub mod Copying
-pub mod Keeping
 pub mod Texts
 pub mod Placing
 pub mod Filling

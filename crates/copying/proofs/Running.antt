@@ -21,10 +21,9 @@ use Rattle.copying.specs.Resuming.{lengthAt, placeIn, offset, piece, com
 use Rattle.copying.specs.RoundRule.{firstPlace, placeAfter, placeOf, Chain, ChainRule, roundAfter, storeAfter}
 use Rattle.copying.specs.declared.Place.{Place}
 use Rattle.copying.specs.declared.Round.{Round}
-use Rattle.copying.proofs.Texts.{texts-long, texts-at, texts-readable}
+use Rattle.copying.proofs.Texts.{texts-long, texts-at, texts-readable, texts-kept}
 use Rattle.copying.proofs.Placing.{is-place}
 use Rattle.copying.proofs.Rounding.{place-rule}
-use Rattle.copying.proofs.Keeping.{texts-kept}
 use Rattle.copying.proofs.Chaining.{chain-rule}
 
 module _ (s : List ℕ) (destination : StrPtr) (list : List StrPtr) (count : ℕ) (L : length list ≡ 32) (e : joinFromRefusal s destination list count firstPlace ≡ 0) where

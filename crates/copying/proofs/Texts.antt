@@ -12,6 +12,7 @@ use Rattle.strlib.specs.Store.{put}
 use Rattle.strlib.specs.declared.StrPtr.{StrPtr}
 use Rattle.strlib.proofs.Pointing.{text-length}
 use Rattle.strlib.proofs.Refusing.{and-both}
+use Rattle.moving.proofs.Keeping.{text-kept}
 use Rattle.copying.specs.Copying.{texts, joined}
 use Rattle.copying.specs.Resuming.{lengthAt, before}
 
@@ -38,6 +39,15 @@ pub texts-readable : (s : List ℕ) (ps : List StrPtr) → all (readable s) ps �
 unfolding texts all readable
 texts-readable s [] = refl
 texts-readable s (p ∷ ps) = rw (texts-readable s ps)
+
+-- a write in the destination's room leaves each string outside it as it was
+pub texts-kept : (s : List ℕ) (destination : StrPtr) (ps : List StrPtr) (xs : List ℕ) → goodIn (length s) destination ≡ true → all (clear destination) ps ≡ true
+    → length xs ≤ destination .maximum → texts (put s (destination .start) xs) ps ≡ texts s ps
+unfolding texts all
+texts-kept s destination [] xs g c h = refl
+texts-kept s destination (p ∷ ps) xs g c h =
+    let b = and-both (clear destination p) (all (clear destination) ps) c in
+    rw (text-kept s destination p (destination .start) xs g (b .0) (omega arith) (omega arith), texts-kept s destination ps xs g (b .1) h)
 
 -- the length of the string of an index
 pub length-at-is : (ps : List StrPtr) (i : ℕ) (d : StrPtr) → i < length ps → lengthAt ps i ≡ getD ps i d .length

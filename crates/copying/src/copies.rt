@@ -45,12 +45,8 @@ pub fn append(store: &mut [u8], destination: StrPtr, source: StrPtr) -> CopyAnsw
     }
     let room = destination.maximum - destination.length;
     let n = moving::least(source.length, room);
-    moving::move_characters(
-        store,
-        source.start,
-        destination.start + destination.length,
-        n,
-    );
+    let behind = destination.start + destination.length;
+    moving::move_characters(store, source.start, behind, n);
     let to = destination.sized(destination.length + n);
     CopyAnswer::Given(Wrote {
         to,

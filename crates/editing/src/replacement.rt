@@ -3,7 +3,8 @@ use strlib::StrAnswer;
 use strlib::StrPtr;
 ghost use mathlib.Core.Path.{_≡_};
 ghost use lib.Dec.{leb};
-ghost use Rattle.strlib.specs.Refusal.{answered};
+ghost use Rattle.strlib.specs.Pointer.{clear};
+ghost use Rattle.strlib.specs.Refusal.{also, answered};
 ghost use Rattle.editing.specs.Replacing.{isPart, newLength, replaceRefusal, replaceRule};
 
 // Whether the characters of string 2 lie among those of string 1.
@@ -34,6 +35,15 @@ fn is_fit(string1: StrPtr, string2: StrPtr, string3: StrPtr) -> bool
     string3.length <= string1.maximum - kept
 }
 
+// The checks of the places and of the result: 4, 5 and 6.
+fn check_places(found: u8, string1: StrPtr, string2: StrPtr, string3: StrPtr) -> u8
+    ensures { λ r. ⌜ r ≡ also (also (also found 4 (isPart string1 string2)) 5 (clear string1 string3)) 6 (leb (newLength string1 string2 string3) (string1 .maximum)) ⌝ }
+{
+    let found = strlib::check(found, 4, is_part(string1, string2));
+    let found = strlib::check(found, 5, strlib::is_clear(string1, string3));
+    strlib::check(found, 6, is_fit(string1, string2, string3))
+}
+
 fn replace_refusal(store: &[u8], string1: StrPtr, string2: StrPtr, string3: StrPtr) -> u8
     ensures { λ r. ⌜ r ≡ replaceRefusal (now (store .entry)) string1 string2 string3 ⌝ }
 {
@@ -44,9 +54,7 @@ fn replace_refusal(store: &[u8], string1: StrPtr, string2: StrPtr, string3: StrP
     let found = strlib::check_good(found, n, string3);
     let found = strlib::check_readable(found, store, string1);
     let found = strlib::check_readable(found, store, string3);
-    let found = strlib::check(found, 4, is_part(string1, string2));
-    let found = strlib::check(found, 5, strlib::is_clear(string1, string3));
-    strlib::check(found, 6, is_fit(string1, string2, string3))
+    check_places(found, string1, string2, string3)
 }
 
 // Puts the characters of string 3 in the place of string 2, a part of string 1: what stands behind it moves first.
@@ -60,7 +68,8 @@ pub fn replace(store: &mut [u8], string1: StrPtr, string2: StrPtr, string3: StrP
     let at = string2.start;
     let end = at + string2.length;
     let tail = string1.start + string1.length - end;
-    moving::move_characters(store, end, at + string3.length, tail);
+    let behind = at + string3.length;
+    moving::move_characters(store, end, behind, tail);
     moving::move_characters(store, string3.start, at, string3.length);
     StrAnswer::Given(string1.sized(string1.length - string2.length + string3.length))
 }

@@ -2,19 +2,19 @@
 -- the number of calls. Assumes nothing.
 use mathlib.Core.Path.{_≡_, refl, sym, ap, _∙_}
 use mathlib.Core.Bool.{true}
-use mathlib.Core.List.{List, [], _∷_, _++_}
-use Prim.Native.Nat.{ℕ, zero, suc, _+_, _-_, _≤_, _<_}
+use mathlib.Core.List.{List}
+use Prim.Native.Nat.{ℕ, zero, suc, _≤_}
 use native.Mathlib.Omega.{arith}
 use lib.ListN.{length, take}
 use Rattle.strlib.specs.Pointer.{sized, goodIn, textOf}
-use Rattle.strlib.specs.Refusal.{Outcome, gives}
+use Rattle.strlib.specs.Refusal.{gives}
 use Rattle.strlib.specs.Store.{put}
 use Rattle.strlib.specs.declared.StrPtr.{StrPtr}
 use Rattle.strlib.proofs.Pointing.{good-is}
-use Rattle.strlib.proofs.Refusing.{Passed, passed, ruled-gave}
+use Rattle.strlib.proofs.Refusing.{passed, ruled-gave}
 use Rattle.strlib.proofs.Storing.{part-put}
 use Rattle.copying.specs.Copying.{texts, joined}
-use Rattle.copying.specs.Resuming.{offset, piece, completes, nextPlace, roundOf, resumed, joinFromChecks, joinFromRefusal, joinFromRule}
+use Rattle.copying.specs.Resuming.{offset, piece, completes, roundOf, resumed, joinFromChecks, joinFromRefusal, joinFromRule}
 use Rattle.copying.specs.RoundRule.{placeAfter, movedAfter, roundsFor, placeOf, Chain, heldAfter, ChainRule}
 use Rattle.copying.specs.declared.Place.{Place}
 use Rattle.copying.specs.declared.Round.{Round}

@@ -1,5 +1,5 @@
 -- Laws of copy and append: where no check fails, both places lie in the store, so that the leaf moves what the rule says. Assumes nothing.
-use mathlib.Core.Path.{_≡_, refl, sym, ap, _∙_}
+use mathlib.Core.Path.{_≡_, refl, sym, _∙_}
 use mathlib.Core.Bool.{Bool, false}
 use mathlib.Core.List.{List, _++_, append-nil}
 use Prim.Native.Nat.{ℕ, _+_, _-_, _≤_, min}
@@ -11,7 +11,7 @@ use mir.Syntax.{w64}
 use mir.Val.{Fits}
 use borrow.Author.Needs.{needs}
 use Rattle.strlib.specs.Pointer.{sized, textOf}
-use Rattle.strlib.specs.Refusal.{Outcome, refused, gives, ruled}
+use Rattle.strlib.specs.Refusal.{refused, gives}
 use Rattle.strlib.specs.Store.{put}
 use Rattle.strlib.specs.declared.StrPtr.{StrPtr}
 use Rattle.strlib.proofs.Pointing.{fits-is, good-is, text-length, leb-same}

@@ -2,7 +2,7 @@
 -- strings from index i on, but for q characters. A turn moves the next of them, whose source no write has changed, and then either the
 -- string is used up or the maximum is reached. Assumes nothing.
 use mathlib.Core.Path.{_≡_, refl, sym, ap, _∙_}
-use mathlib.Core.Bool.{Bool, true, false}
+use mathlib.Core.Bool.{true, false}
 use mathlib.Core.List.{List, [], _∷_, _++_}
 use Prim.Native.Nat.{ℕ, _+_, _-_, _≤_, _<_, min}
 use native.Mathlib.Nat.{sub-zero}
@@ -14,7 +14,7 @@ use mir.Syntax.{w64}
 use mir.Val.{Fits}
 use borrow.Author.Needs.{needs}
 use borrow.Author.Tests.{le-leb, lt-leb, lt-ltb, le-ltb}
-use Rattle.strlib.specs.Pointer.{sized, goodIn, textOf, clear, all}
+use Rattle.strlib.specs.Pointer.{sized, goodIn, textOf, clear}
 use Rattle.strlib.specs.Store.{put}
 use Rattle.strlib.specs.declared.StrPtr.{StrPtr}
 use Rattle.strlib.proofs.Pointing.{good-is, text-length}
@@ -26,7 +26,6 @@ use Rattle.moving.proofs.Keeping.{text-kept}
 use Rattle.copying.specs.Copying.{texts, joined}
 use Rattle.copying.specs.Resuming.{lengthAt, before, placeAt, piece, completes, nextPlace, roundOf, resumed}
 use Rattle.copying.specs.Helpers.{Next, movedNext, Resumable}
-use Rattle.copying.specs.declared.Place.{Place}
 use Rattle.copying.specs.declared.Round.{Round}
 use Rattle.copying.proofs.Texts.{texts-long, texts-drop, joined-drop, before-add}
 use Rattle.copying.proofs.Placing.{length-in, place-skip}

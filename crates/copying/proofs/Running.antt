@@ -1,26 +1,24 @@
 -- Calling again on the store that the call before left: where the first call is not refused no later one is, since the listed strings
 -- stay as they were and each place that a call gives is one that a call takes. So these calls are a chain, and the round rule holds of
 -- them. Assumes nothing.
-use mathlib.Core.Path.{_≡_, refl, sym, ap, _∙_}
+use mathlib.Core.Path.{_≡_, refl, sym, _∙_}
 use mathlib.Core.Bool.{Bool, true, false}
-use mathlib.Core.List.{List, []}
+use mathlib.Core.List.{List}
 use Prim.Native.Nat.{ℕ, zero, suc, _+_, _-_, _≤_}
 use native.Mathlib.Omega.{arith}
-use lib.Dec.{leb}
-use lib.ListN.{length, take, getD, length-take}
+use lib.ListN.{length, take, length-take}
 use borrow.Author.Tests.{leb-true}
-use Rattle.strlib.specs.Pointer.{storeFits, goodIn, characters, readable, clear, all}
-use Rattle.strlib.specs.Refusal.{Outcome, gives, outcome, after, ruled}
+use Rattle.strlib.specs.Pointer.{storeFits, goodIn, readable, all}
+use Rattle.strlib.specs.Refusal.{gives, outcome, after, ruled}
 use Rattle.strlib.specs.Store.{put}
 use Rattle.strlib.specs.declared.StrPtr.{StrPtr}
 use Rattle.strlib.proofs.Pointing.{good-is}
 use Rattle.strlib.proofs.Refusing.{Passed, passed}
 use Rattle.strlib.proofs.Storing.{put-length}
 use Rattle.copying.specs.Copying.{texts}
-use Rattle.copying.specs.Resuming.{lengthAt, placeIn, offset, piece, completes, nextPlace, roundOf, resumed, joinFromChecks, joinFromRefusal, joinFromRule}
+use Rattle.copying.specs.Resuming.{placeIn, offset, piece, completes, nextPlace, roundOf, resumed, joinFromChecks, joinFromRefusal, joinFromRule}
 use Rattle.copying.specs.RoundRule.{firstPlace, placeAfter, placeOf, Chain, ChainRule, roundAfter, storeAfter}
 use Rattle.copying.specs.declared.Place.{Place}
-use Rattle.copying.specs.declared.Round.{Round}
 use Rattle.copying.proofs.Texts.{texts-long, texts-at, texts-readable, texts-kept}
 use Rattle.copying.proofs.Placing.{is-place}
 use Rattle.copying.proofs.Rounding.{place-rule}

@@ -56,14 +56,15 @@ abbrev pub copyChecks : List ℕ → StrPtr → StrPtr → List (ℕ × Bool)
 copyChecks s destination source =
     (3, storeFits s) ∷ (1, goodIn (length s) destination) ∷ (1, goodIn (length s) source) ∷ (2, readable s source) ∷ (5, clear destination source) ∷ []
 
+-- the number that they find, 0 for none
 unfoldable pub copyRefusal : List ℕ → StrPtr → StrPtr → ℕ
 copyRefusal s destination source = first (copyChecks s destination source)
 
--- the source's characters
+-- a copy writes the source's characters
 unfoldable pub copyRule : List ℕ → StrPtr → StrPtr → Bool → Outcome Wrote × List ℕ
 copyRule s destination source pad = boundedCopy (copyRefusal s destination source) s destination (textOf s source) pad
 
--- the destination's own characters, then the source's
+-- an append writes the destination's own characters, then the source's
 unfoldable pub appendRule : List ℕ → StrPtr → StrPtr → Outcome Wrote × List ℕ
 appendRule s destination source =
     boundedCopy (copyRefusal s destination source) s destination (textOf s destination ++ textOf s source) false
@@ -74,10 +75,11 @@ joinChecks s destination list count =
     (3, storeFits s) ∷ (3, leb count 32) ∷ (1, goodIn (length s) destination) ∷ (1, all (goodIn (length s)) (take count list))
     ∷ (2, all (readable s) (take count list)) ∷ (5, all (clear destination) (take count list)) ∷ []
 
+-- the number that they find, 0 for none
 unfoldable pub joinRefusal : List ℕ → StrPtr → List StrPtr → ℕ → ℕ
 joinRefusal s destination list count = first (joinChecks s destination list count)
 
--- the characters of the first `count` strings of the list
+-- a join writes the characters of the first `count` strings of the list
 unfoldable pub joinRule : List ℕ → StrPtr → List StrPtr → ℕ → Bool → Outcome Wrote × List ℕ
 joinRule s destination list count pad =
     boundedCopy (joinRefusal s destination list count) s destination (joined (texts s (take count list))) pad

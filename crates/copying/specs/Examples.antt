@@ -15,35 +15,43 @@ use Rattle.copying.specs.declared.Place.{Place}
 use Rattle.copying.specs.declared.Round.{Round}
 use Rattle.copying.specs.declared.Wrote.{Wrote}
 
+-- the answer of a bounded copy
 abbrev pub to : StrPtr → Bool → Outcome Wrote
 to p completed = gives (record { to = p; completed = completed })
 
+-- a resume place
 abbrev pub place : ℕ → ℕ → Place
 place k p = record { string = k; character = p }
 
+-- the answer of a checkpointed join
 abbrev pub round : StrPtr → Bool → Place → Outcome Round
 round p completed next = gives (record { to = p; completed = completed; next = next })
 
--- the manual's strings, each in the store in front of the destination's room
+-- the manual's strings of 3.2 in the store, in front of what is given
 abbrev pub varying : List ℕ → List ℕ
 varying room = bytes "a data-varying string a d-p one abc more " ++ room
 
+-- those of 5.2, cmbstr
 abbrev pub halves : List ℕ → List ℕ
 halves room = bytes "first halfsecond half" ++ room
 
+-- those of 5.2, chkstr
 abbrev pub four : List ℕ → List ℕ
 four room = bytes "1122 3344 5566 7788 " ++ room
 
+-- and their pointers
 abbrev pub strings : List StrPtr
 strings = pointer 0 5 5 ∷ pointer 5 5 5 ∷ pointer 10 5 5 ∷ pointer 15 5 5 ∷ []
 
--- abc, the null string, de
+-- five letters
 abbrev pub letters : List ℕ → List ℕ
 letters room = bytes "abcde" ++ room
 
+-- abc, the null string, de
 abbrev pub three : List StrPtr
 three = pointer 0 3 3 ∷ pointer 2 0 1 ∷ pointer 3 2 2 ∷ []
 
+-- the claim: each rule on given bytes and pointers
 pub record Examples : Type 0 where
   -- 3.2, appstr: 'a d-p one' behind 'a data-varying string '
   pub appended : appendRule (varying (bytes "a data-varying string .........")) (pointer 41 22 31) (pointer 22 9 9)
@@ -79,6 +87,7 @@ pub record Examples : Type 0 where
   pub nothing : joinFromRule (letters (bytes ".....")) (pointer 5 0 0) three 3 (place 1 4) ≡ (round (pointer 5 0 0) false (place 3 1), letters (bytes "....."))
   pub empty : joinFromRule (letters (bytes ".....")) (pointer 5 0 0) three 3 (place 4 1) ≡ (round (pointer 5 0 0) true (place 4 1), letters (bytes "....."))
 
+-- it holds, by computing both sides
 pub examples : Examples
 unfolding pointer sized storeFits goodIn textOf characters readable apart clear all outcome after ruled put texts joined gap laid wrote boundedCopy copyRefusal joinRefusal copyRule appendRule joinRule lengthAt placeIn before placeAt piece completes nextPlace roundOf resumed joinFromRefusal joinFromRule
 examples =

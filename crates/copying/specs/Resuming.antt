@@ -70,14 +70,17 @@ resumed s destination ps i q =
 
 -- ---- the call
 
+-- the checks of a checkpointed join
 abbrev pub joinFromChecks : List ℕ → StrPtr → List StrPtr → ℕ → Place → List (ℕ × Bool)
 joinFromChecks s destination list count from =
     (3, storeFits s) ∷ (3, leb count 32) ∷ (1, goodIn (length s) destination) ∷ (1, all (goodIn (length s)) (take count list))
     ∷ (2, all (readable s) (take count list)) ∷ (4, placeIn list count from) ∷ (5, all (clear destination) (take count list)) ∷ []
 
+-- the number that they find, 0 for none
 unfoldable pub joinFromRefusal : List ℕ → StrPtr → List StrPtr → ℕ → Place → ℕ
 joinFromRefusal s destination list count from = first (joinFromChecks s destination list count from)
 
+-- a checkpointed join is one round from the given place on
 unfoldable pub joinFromRule : List ℕ → StrPtr → List StrPtr → ℕ → Place → Outcome Round × List ℕ
 joinFromRule s destination list count from =
     let round : Round × List ℕ = resumed s destination (take count list) (from .string - 1) (from .character - 1) in

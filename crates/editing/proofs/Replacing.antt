@@ -1,7 +1,7 @@
 -- Laws of replace: what stands behind string 2 moves first, then string 3 is put in front of it; the two writes are one `put` behind the
 -- characters that stay. Assumes nothing.
-use mathlib.Core.Path.{_≡_, refl, sym, ap, _∙_}
-use mathlib.Core.Bool.{Bool, true, false, _&&_, and-false}
+use mathlib.Core.Path.{_≡_, refl, sym, _∙_}
+use mathlib.Core.Bool.{true, false, and-false}
 use mathlib.Core.List.{List, _++_, append-assoc}
 use Prim.Native.Nat.{ℕ, _+_, _-_, _≤_, _<_}
 use native.Mathlib.Omega.{arith}
@@ -12,8 +12,8 @@ use mir.Syntax.{w64}
 use mir.Val.{Fits}
 use borrow.Author.Needs.{needs}
 use borrow.Author.Tests.{leb-true, le-leb, lt-leb}
-use Rattle.strlib.specs.Pointer.{sized, goodIn, textOf, clear}
-use Rattle.strlib.specs.Refusal.{Outcome, refused, gives, ruled}
+use Rattle.strlib.specs.Pointer.{sized, textOf}
+use Rattle.strlib.specs.Refusal.{refused, gives}
 use Rattle.strlib.specs.Store.{put}
 use Rattle.strlib.specs.declared.StrPtr.{StrPtr}
 use Rattle.strlib.proofs.Pointing.{leb-same, fits-is, good-is, text-length}

@@ -2,17 +2,17 @@
 -- Assumes nothing.
 use mathlib.Core.Path.{_≡_, refl, sym, _∙_}
 use mathlib.Core.List.{List}
-use Prim.Native.Nat.{ℕ, _+_, _≤_}
+use Prim.Native.Nat.{ℕ, _≤_}
 use native.Mathlib.Omega.{arith}
-use lib.ListN.{length, take, drop}
+use lib.ListN.{length}
 use borrow.Author.Needs.{needs}
 use borrow.Author.Tests.{leb-true}
 use Rattle.strlib.specs.Pointer.{sized, textOf}
-use Rattle.strlib.specs.Refusal.{Outcome, refused, gives, ruled}
+use Rattle.strlib.specs.Refusal.{refused, gives}
 use Rattle.strlib.specs.Store.{put}
 use Rattle.strlib.specs.declared.StrPtr.{StrPtr}
 use Rattle.strlib.proofs.Pointing.{good-is, text-length}
-use Rattle.strlib.proofs.Refusing.{inTurn, first-is, Passed, passed, ruled-no, ruled-yes}
+use Rattle.strlib.proofs.Refusing.{inTurn, first-is, passed, ruled-no, ruled-yes}
 use Rattle.moving.specs.Moving.{moved, reversed, reversedAt}
 use Rattle.moving.proofs.Moving.{moved-in}
 use Rattle.moving.proofs.Turning.{reversed-length, reversed-in, reversed-put}

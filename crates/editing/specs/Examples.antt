@@ -4,7 +4,7 @@ use mathlib.Core.Path.{_≡_, refl}
 use mathlib.Core.List.{List, _++_}
 use Rattle.strlib.specs.Pointer.{pointer, sized, storeFits, goodIn, textOf, characters, readable, apart, clear, all}
 use Rattle.strlib.specs.Quoted.{bytes}
-use Rattle.strlib.specs.Refusal.{Outcome, refused, gives, outcome, after, ruled}
+use Rattle.strlib.specs.Refusal.{refused, gives, outcome, after, ruled}
 use Rattle.strlib.specs.Store.{put}
 use Rattle.moving.specs.Moving.{reversed}
 use Rattle.editing.specs.Replacing.{isPart, newLength, replaced, replaceRefusal, replaceRule}
@@ -14,6 +14,7 @@ use Rattle.editing.specs.Reversing.{reverseRefusal, reverseRule, reverse
 abbrev pub twenty : List ℕ → List ℕ
 twenty room = room ++ bytes "abc  "
 
+-- the claim: each rule on given bytes and pointers
 pub record Examples : Type 0 where
   -- 3.5, revstr: '1234' from the source, and in place
   pub from : reverseFromRule (bytes "1234abcdefg") (pointer 4 7 7) (pointer 0 4 4) ≡ (gives (pointer 4 4 7), bytes "12344321efg")
@@ -40,6 +41,7 @@ pub record Examples : Type 0 where
   pub over : reverseFromRule (bytes "4321..ab") (pointer 4 0 1) (pointer 6 2 2) ≡ (refused 6, bytes "4321..ab")
   pub itself : reverseFromRule (bytes "4321..ab") (pointer 0 4 4) (pointer 0 4 4) ≡ (refused 5, bytes "4321..ab")
 
+-- it holds, by computing both sides
 pub examples : Examples
 unfolding pointer sized storeFits goodIn textOf characters readable apart clear all outcome after ruled put reversed isPart newLength replaced replaceRefusal replaceRule reverseRefusal reverseRule reverseFromRefusal reverseFromRule
 examples =

@@ -24,16 +24,18 @@ replaced s string1 string2 string3 =
     let at : ℕ = string2 .start - string1 .start in
     take at (textOf s string1) ++ textOf s string3 ++ drop (at + string2 .length) (textOf s string1)
 
+-- the checks of a replacement
 abbrev pub replaceChecks : List ℕ → StrPtr → StrPtr → StrPtr → List (ℕ × Bool)
 replaceChecks s string1 string2 string3 =
     (3, storeFits s) ∷ (1, goodIn (length s) string1) ∷ (1, goodIn (length s) string2) ∷ (1, goodIn (length s) string3)
     ∷ (2, readable s string1) ∷ (2, readable s string3) ∷ (4, isPart string1 string2) ∷ (5, clear string1 string3)
     ∷ (6, leb (newLength string1 string2 string3) (string1 .maximum)) ∷ []
 
+-- the number that they find, 0 for none
 unfoldable pub replaceRefusal : List ℕ → StrPtr → StrPtr → StrPtr → ℕ
 replaceRefusal s string1 string2 string3 = first (replaceChecks s string1 string2 string3)
 
--- string 1 with its new length; bytes past it stay
+-- string 1 gets its new characters and its new length; bytes past it stay
 unfoldable pub replaceRule : List ℕ → StrPtr → StrPtr → StrPtr → Outcome StrPtr × List ℕ
 replaceRule s string1 string2 string3 =
     let xs : List ℕ = replaced s string1 string2 string3 in

@@ -1,6 +1,6 @@
 -- Laws of the moving leaf. What is moved is what `put` writes, a byte more each turn: behind it for a move towards the front, in
 -- front of it for a move towards the back; the bytes still to be read are as they were. Assumes nothing.
-use mathlib.Core.Path.{_≡_, refl, sym, ap, _∙_}
+use mathlib.Core.Path.{_≡_, sym, ap, _∙_}
 use mathlib.Core.Bool.{Bool, true, false, and-false}
 use mathlib.Core.List.{List, [], _∷_, _++_}
 use Prim.Native.Nat.{ℕ, suc, _+_, _-_, _≤_, _<_}
@@ -14,7 +14,7 @@ use borrow.Author.Needs.{needs}
 use borrow.Author.Tests.{leb-true, le-leb, lt-leb}
 use Rattle.strlib.specs.Store.{put}
 use Rattle.strlib.proofs.Pointing.{leb-same}
-use Rattle.strlib.proofs.Storing.{put-none, put-length, put-more, put-front, drop-put, part-before}
+use Rattle.strlib.proofs.Storing.{put-none, put-more, put-front, drop-put, part-before}
 use Rattle.moving.specs.Moving.{within, moved}
 
 -- ---- a place in the store

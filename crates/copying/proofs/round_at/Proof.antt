@@ -1,4 +1,3 @@
-use borrow.Author.Needs.{needs}
 use Rattle.copying.proofs.round_at.Statement.{statement}
 use Rattle.copying.proofs.round_at.Tie as tie
 

@@ -12,7 +12,7 @@ use lib.Seq.{drop-cons, take-all, take-nil}
 use borrow.Author.Needs.{needs}
 use borrow.Author.Tests.{leb-true, leb-false, le-leb, lt-leb}
 use Rattle.strlib.proofs.Refusing.{and-both}
-use Rattle.strlib.specs.Pointer.{goodIn, sized, partOf, textOf, all, characters, apart}
+use Rattle.strlib.specs.Pointer.{storeFits, goodIn, sized, partOf, textOf, all, characters, apart}
 use Rattle.strlib.specs.declared.StrPtr.{StrPtr}
 
 -- two tests that hold together are equal
@@ -30,6 +30,12 @@ either {X} m n f g = go (leb m n) refl
     go : (b : Bool) → leb m n ≡ b → X
     go true e = f (leb-true m n e)
     go false e = g (leb-false m n e)
+
+-- ---- the store
+
+pub fits-is : (s : List ℕ) → storeFits s ≡ true → length s ≤ 65536
+unfolding storeFits
+fits-is s e = leb-true (length s) 65536 e
 
 -- ---- good pointers
 

@@ -1,0 +1,17 @@
+use Rattle.copying.proofs.Joining.{from-checked}
+use Rattle.copying.proofs.rounds.join_from_refusal.Statement.{statement}
+use Rattle.copying.proofs.rounds.join_from_refusal.Tie as tie
+
+pub join-from-refusal-spec : {M : Type 1} → statement M
+join-from-refusal-spec =
+    tie.close
+    (tie.spec
+    (λ c κs. tt)
+    (λ c κs. tt)
+    (λ c κs. tt)
+    (λ c κs. tt)
+    (λ c κs. tt)
+    (λ c κs. tt)
+    (λ c κs. tt)
+    (λ c κs. tt)
+    (λ c. from-checked _ _ _ _ _ _ (cc)))

@@ -1,0 +1,16 @@
+use Rattle.editing.proofs.Reversing.{reverse-from-checked}
+use Rattle.editing.proofs.reversal.reverse_from_refusal.Statement.{statement}
+use Rattle.editing.proofs.reversal.reverse_from_refusal.Tie as tie
+
+pub reverse-from-refusal-spec : {M : Type 1} → statement M
+reverse-from-refusal-spec =
+    tie.close
+    (tie.spec
+    (λ c κs. tt)
+    (λ c κs. tt)
+    (λ c κs. tt)
+    (λ c κs. tt)
+    (λ c κs. tt)
+    (λ c κs. tt)
+    (λ c κs. tt)
+    (λ c. reverse-from-checked _ _ _ _ (cc)))

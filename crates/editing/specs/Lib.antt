@@ -1,0 +1,3 @@
+pub mod Replacing
+pub mod Reversing
+pub mod Examples

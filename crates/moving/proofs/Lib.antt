@@ -1,0 +1,4 @@
+pub mod Moving
+pub mod Blanking
+pub mod Turning
+pub mod Keeping

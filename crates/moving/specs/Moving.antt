@@ -1,0 +1,28 @@
+-- What moving, blanks and reversal leave in a store: 01, "Copying". Outside the store nothing is written. Assumes nothing.
+use Prim.Native.Nat.{ℕ, _+_}
+use mathlib.Core.Bool.{Bool, cond, _&&_}
+use mathlib.Core.List.{List, [], _∷_, _++_}
+use lib.Dec.{leb}
+use lib.ListN.{length, take, drop, replicate}
+use Rattle.strlib.specs.Store.{put}
+
+-- the n bytes from index at on lie in a store of this size
+unfoldable pub within : ℕ → ℕ → ℕ → Bool
+within size at n = leb (at + n) size
+
+-- s with the n characters at `from`, as they are in s, written at `to`
+unfoldable pub moved : List ℕ → ℕ → ℕ → ℕ → List ℕ
+moved s from to n = cond (within (length s) from n && within (length s) to n) (put s to (take n (drop from s))) s
+
+-- s with n blanks written from index at on
+unfoldable pub blanked : List ℕ → ℕ → ℕ → List ℕ
+blanked s at n = cond (within (length s) at n) (put s at (replicate n 32)) s
+
+-- characters from the last to the first
+unfoldable pub reversed : List ℕ → List ℕ
+reversed [] = []
+reversed (x ∷ xs) = reversed xs ++ (x ∷ [])
+
+-- s with its n characters from index at on reversed
+unfoldable pub reversedAt : List ℕ → ℕ → ℕ → List ℕ
+reversedAt s at n = cond (within (length s) at n) (put s at (reversed (take n (drop at s)))) s

@@ -1,0 +1,45 @@
+// The one leaf through which characters are moved.
+ghost use mathlib.Core.Path.{_≡_};
+ghost use Prim.Native.Nat.{_+_, _≤_};
+ghost use lib.ListN.{length, take, drop};
+ghost use Rattle.strlib.specs.Store.{put};
+ghost use Rattle.moving.specs.Moving.{moved};
+
+// From front to back, for a move towards the front.
+fn move_down(store: &mut [u8], from: usize, to: usize, n: usize)
+    requires { ⌜ (from + n ≤ length (now store)) × (to ≤ from) ⌝ }
+    ensures { λ _. ⌜ now (store .exit) ≡ put (now (store .entry)) to (take n (drop from (now (store .entry)))) ⌝ }
+{
+    let mut i = 0;
+    while i < n {
+        store[to + i] = store[from + i];
+        i += 1;
+    }
+}
+
+// From back to front, for a move towards the back.
+fn move_up(store: &mut [u8], from: usize, to: usize, n: usize)
+    requires { ⌜ (to + n ≤ length (now store)) × (from ≤ to) ⌝ }
+    ensures { λ _. ⌜ now (store .exit) ≡ put (now (store .entry)) to (take n (drop from (now (store .entry)))) ⌝ }
+{
+    let mut i = n;
+    while 0 < i {
+        i -= 1;
+        store[to + i] = store[from + i];
+    }
+}
+
+// Moves n characters within the store, as they were at entry; the two places may overlap.
+pub fn move_characters(store: &mut [u8], from: usize, to: usize, n: usize)
+    ensures { λ _. ⌜ now (store .exit) ≡ moved (now (store .entry)) from to n ⌝ }
+{
+    if to <= from {
+        if super::is_within(store.len(), from, n) {
+            move_down(store, from, to, n)
+        }
+    } else {
+        if super::is_within(store.len(), to, n) {
+            move_up(store, from, to, n)
+        }
+    }
+}

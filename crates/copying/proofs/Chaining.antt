@@ -6,14 +6,14 @@ use mathlib.Core.List.{List}
 use Prim.Native.Nat.{ℕ, zero, suc, _≤_}
 use native.Mathlib.Omega.{arith}
 use lib.ListN.{length, take}
-use Rattle.strlib.specs.Pointer.{sized, goodIn, textOf}
+use Rattle.strlib.specs.Pointer.{sized, goodIn, textOf, texts}
 use Rattle.strlib.specs.Refusal.{gives}
 use Rattle.strlib.specs.Store.{put}
 use Rattle.strlib.specs.declared.StrPtr.{StrPtr}
 use Rattle.strlib.proofs.Pointing.{good-is}
 use Rattle.strlib.proofs.Refusing.{passed, ruled-gave}
 use Rattle.strlib.proofs.Storing.{part-put}
-use Rattle.copying.specs.Copying.{texts, joined}
+use Rattle.copying.specs.Copying.{joined}
 use Rattle.copying.specs.Resuming.{offset, piece, completes, roundOf, resumed, joinFromChecks, joinFromRefusal, joinFromRule}
 use Rattle.copying.specs.RoundRule.{placeAfter, movedAfter, roundsFor, placeOf, Chain, heldAfter, ChainRule}
 use Rattle.copying.specs.declared.Place.{Place}

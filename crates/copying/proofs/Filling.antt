@@ -14,7 +14,7 @@ use mir.Syntax.{w64}
 use mir.Val.{Fits}
 use borrow.Author.Needs.{needs}
 use borrow.Author.Tests.{le-leb, lt-leb, lt-ltb, le-ltb}
-use Rattle.strlib.specs.Pointer.{sized, goodIn, textOf, clear}
+use Rattle.strlib.specs.Pointer.{sized, goodIn, textOf, texts, clear}
 use Rattle.strlib.specs.Store.{put}
 use Rattle.strlib.specs.declared.StrPtr.{StrPtr}
 use Rattle.strlib.proofs.Pointing.{good-is, text-length}
@@ -23,7 +23,7 @@ use Rattle.strlib.proofs.Storing.{drop-take, put-none, put-put, put-length}
 use Rattle.moving.specs.Moving.{moved}
 use Rattle.moving.proofs.Moving.{moved-in}
 use Rattle.moving.proofs.Keeping.{text-kept}
-use Rattle.copying.specs.Copying.{texts, joined}
+use Rattle.copying.specs.Copying.{joined}
 use Rattle.copying.specs.Resuming.{lengthAt, before, placeAt, piece, completes, nextPlace, roundOf, resumed}
 use Rattle.copying.specs.Helpers.{Next, movedNext, Resumable}
 use Rattle.copying.specs.declared.Round.{Round}

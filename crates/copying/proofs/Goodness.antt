@@ -5,13 +5,13 @@ use mathlib.Core.List.{List, _++_}
 use Prim.Native.Nat.{ℕ}
 use native.Mathlib.Omega.{arith}
 use lib.ListN.{length, take, drop, length-take}
-use Rattle.strlib.specs.Pointer.{goodIn, textOf}
+use Rattle.strlib.specs.Pointer.{goodIn, textOf, texts}
 use Rattle.strlib.specs.Refusal.{gives}
 use Rattle.strlib.specs.Store.{put}
 use Rattle.strlib.specs.declared.StrPtr.{StrPtr}
 use Rattle.strlib.proofs.Pointing.{good-sized}
 use Rattle.strlib.proofs.Refusing.{passed, ruled-gave}
-use Rattle.copying.specs.Copying.{texts, joined, laid, wrote, boundedCopy, copyChecks, copyRefusal, copyRule, appendRule, joinChecks, joinRefusal, joinRule}
+use Rattle.copying.specs.Copying.{joined, laid, wrote, boundedCopy, copyChecks, copyRefusal, copyRule, appendRule, joinChecks, joinRefusal, joinRule}
 use Rattle.copying.specs.Resuming.{offset, piece, roundOf, joinFromRule}
 use Rattle.copying.specs.declared.Place.{Place}
 use Rattle.copying.specs.declared.Round.{Round}

@@ -7,13 +7,13 @@ use native.Mathlib.Omega.{arith}
 use lib.ListN.{length, take, length-take}
 use borrow.Author.Needs.{needs}
 use borrow.Author.Tests.{leb-true}
-use Rattle.strlib.specs.Pointer.{sized}
+use Rattle.strlib.specs.Pointer.{sized, texts}
 use Rattle.strlib.specs.Refusal.{refused, gives}
 use Rattle.strlib.specs.Store.{put}
 use Rattle.strlib.specs.declared.StrPtr.{StrPtr}
 use Rattle.strlib.proofs.Pointing.{fits-is, good-is}
 use Rattle.strlib.proofs.Refusing.{inTurn, first-is, Passed, passed, ruled-no, ruled-yes}
-use Rattle.copying.specs.Copying.{texts, joined, boundedCopy, joinChecks, joinRefusal, joinRule}
+use Rattle.copying.specs.Copying.{joined, boundedCopy, joinChecks, joinRefusal, joinRule}
 use Rattle.copying.specs.Resuming.{lengthAt, before, piece, completes, roundOf, resumed, joinFromChecks, joinFromRefusal, joinFromRule}
 use Rattle.copying.specs.Helpers.{Ended, finished, Resumable}
 use Rattle.copying.specs.declared.Place.{Place}

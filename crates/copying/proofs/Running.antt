@@ -8,14 +8,13 @@ use Prim.Native.Nat.{ℕ, zero, suc, _+_, _-_, _≤_}
 use native.Mathlib.Omega.{arith}
 use lib.ListN.{length, take, length-take}
 use borrow.Author.Tests.{leb-true}
-use Rattle.strlib.specs.Pointer.{storeFits, goodIn, readable, all}
+use Rattle.strlib.specs.Pointer.{storeFits, goodIn, readable, all, texts}
 use Rattle.strlib.specs.Refusal.{gives, outcome, after, ruled}
 use Rattle.strlib.specs.Store.{put}
 use Rattle.strlib.specs.declared.StrPtr.{StrPtr}
 use Rattle.strlib.proofs.Pointing.{good-is}
 use Rattle.strlib.proofs.Refusing.{Passed, passed}
 use Rattle.strlib.proofs.Storing.{put-length}
-use Rattle.copying.specs.Copying.{texts}
 use Rattle.copying.specs.Resuming.{placeIn, offset, piece, completes, nextPlace, roundOf, resumed, joinFromChecks, joinFromRefusal, joinFromRule}
 use Rattle.copying.specs.RoundRule.{firstPlace, placeAfter, placeOf, Chain, ChainRule, roundAfter, storeAfter}
 use Rattle.copying.specs.declared.Place.{Place}

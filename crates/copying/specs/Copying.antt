@@ -4,7 +4,7 @@ use mathlib.Core.Bool.{Bool, false, cond}
 use mathlib.Core.List.{List, [], _∷_, _++_}
 use lib.Dec.{leb}
 use lib.ListN.{length, take, replicate}
-use Rattle.strlib.specs.Pointer.{sized, storeFits, goodIn, textOf, readable, clear, all}
+use Rattle.strlib.specs.Pointer.{sized, storeFits, goodIn, textOf, texts, readable, clear, all}
 use Rattle.strlib.specs.Refusal.{Outcome, refused, gives, first, ruled}
 use Rattle.strlib.specs.Store.{put}
 use Rattle.strlib.specs.declared.StrPtr.{StrPtr}
@@ -13,11 +13,6 @@ use Rattle.copying.specs.declared.CopyAnswer.{CopyAnswer}
 use Rattle.copying.specs.declared.CopyAnswer.the-variants.{Given, Refused}
 
 -- ---- what is written
-
--- the characters of listed strings, string by string
-unfoldable pub texts : List ℕ → List StrPtr → List (List ℕ)
-texts s [] = []
-texts s (p ∷ ps) = textOf s p ∷ texts s ps
 
 -- texts one behind the other
 unfoldable pub joined : List (List ℕ) → List ℕ

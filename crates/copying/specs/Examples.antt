@@ -4,12 +4,12 @@ use mathlib.Core.Path.{_≡_, refl}
 use mathlib.Core.Bool.{Bool, true, false}
 use mathlib.Core.List.{List, [], _∷_, _++_}
 use lib.ListN.{replicate}
-use Rattle.strlib.specs.Pointer.{pointer, sized, storeFits, goodIn, textOf, characters, readable, apart, clear, all}
+use Rattle.strlib.specs.Pointer.{pointer, sized, storeFits, goodIn, textOf, texts, characters, readable, apart, clear, all}
 use Rattle.strlib.specs.Quoted.{bytes}
 use Rattle.strlib.specs.Refusal.{Outcome, refused, gives, outcome, after, ruled}
 use Rattle.strlib.specs.Store.{put}
 use Rattle.strlib.specs.declared.StrPtr.{StrPtr}
-use Rattle.copying.specs.Copying.{texts, joined, gap, laid, wrote, boundedCopy, copyRefusal, joinRefusal, copyRule, appendRule, joinRule}
+use Rattle.copying.specs.Copying.{joined, gap, laid, wrote, boundedCopy, copyRefusal, joinRefusal, copyRule, appendRule, joinRule}
 use Rattle.copying.specs.Resuming.{lengthAt, placeIn, before, placeAt, piece, completes, nextPlace, roundOf, resumed, joinFromRefusal, joinFromRule}
 use Rattle.copying.specs.declared.Place.{Place}
 use Rattle.copying.specs.declared.Round.{Round}

@@ -4,11 +4,11 @@ use mathlib.Core.Bool.{Bool, cond, _&&_}
 use mathlib.Core.List.{List, [], _∷_}
 use lib.Dec.{leb, ltb}
 use lib.ListN.{length, take, drop}
-use Rattle.strlib.specs.Pointer.{sized, storeFits, goodIn, readable, clear, all}
+use Rattle.strlib.specs.Pointer.{sized, storeFits, goodIn, readable, clear, all, texts}
 use Rattle.strlib.specs.Refusal.{Outcome, refused, gives, first, ruled}
 use Rattle.strlib.specs.Store.{put}
 use Rattle.strlib.specs.declared.StrPtr.{StrPtr}
-use Rattle.copying.specs.Copying.{texts, joined}
+use Rattle.copying.specs.Copying.{joined}
 use Rattle.copying.specs.declared.Place.{Place}
 use Rattle.copying.specs.declared.Round.{Round}
 use Rattle.copying.specs.declared.RoundAnswer.{RoundAnswer}

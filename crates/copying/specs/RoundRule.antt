@@ -6,10 +6,10 @@ use mathlib.Core.Path.{_≡_}
 use mathlib.Core.Bool.{true, false}
 use mathlib.Core.List.{List, [], _++_}
 use lib.ListN.{length, take, getD}
-use Rattle.strlib.specs.Pointer.{textOf}
+use Rattle.strlib.specs.Pointer.{textOf, texts}
 use Rattle.strlib.specs.Refusal.{gives}
 use Rattle.strlib.specs.declared.StrPtr.{StrPtr}
-use Rattle.copying.specs.Copying.{texts, joined}
+use Rattle.copying.specs.Copying.{joined}
 use Rattle.copying.specs.Resuming.{offset, piece, completes, nextPlace, roundOf, joinFromRule}
 use Rattle.copying.specs.declared.Place.{Place}
 use Rattle.copying.specs.declared.Round.{Round}

@@ -1,4 +1,4 @@
-// Characters reversedAt round in place.
+// Characters reversed in place.
 ghost use mathlib.Core.Path.{_≡_};
 ghost use Prim.Native.Nat.{_+_, _≤_};
 ghost use lib.ListN.{length, take, drop};

@@ -20,7 +20,7 @@ use Rattle.strlib.proofs.Storing.{take-min, take-append, put-kept}
 use Rattle.moving.specs.Moving.{moved}
 use Rattle.moving.proofs.Moving.{moved-in}
 use Rattle.copying.specs.Copying.{gap, laid, wrote, boundedCopy, copyChecks, copyRefusal, copyRule, appendRule}
-use Rattle.copying.specs.Helpers.{Ended, finished}
+use Rattle.copying.specs.Inner.{Ended, finished}
 use Rattle.copying.specs.declared.Wrote.{Wrote}
 use Rattle.copying.proofs.Padding.{bounded}
 

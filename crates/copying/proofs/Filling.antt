@@ -25,7 +25,7 @@ use Rattle.moving.proofs.Moving.{moved-in}
 use Rattle.moving.proofs.Keeping.{text-kept}
 use Rattle.copying.specs.Copying.{joined}
 use Rattle.copying.specs.Resuming.{lengthAt, before, placeAt, piece, completes, nextPlace, roundOf, resumed}
-use Rattle.copying.specs.Helpers.{Next, movedNext, Resumable}
+use Rattle.copying.specs.Inner.{Next, movedNext, Resumable}
 use Rattle.copying.specs.declared.Round.{Round}
 use Rattle.copying.proofs.Texts.{texts-long, texts-drop, joined-drop, before-add}
 use Rattle.copying.proofs.Placing.{length-in, place-skip}

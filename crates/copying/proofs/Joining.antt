@@ -15,7 +15,7 @@ use Rattle.strlib.proofs.Pointing.{fits-is, good-is}
 use Rattle.strlib.proofs.Refusing.{inTurn, first-is, Passed, passed, ruled-no, ruled-yes}
 use Rattle.copying.specs.Copying.{joined, boundedCopy, joinChecks, joinRefusal, joinRule}
 use Rattle.copying.specs.Resuming.{lengthAt, before, piece, completes, roundOf, resumed, joinFromChecks, joinFromRefusal, joinFromRule}
-use Rattle.copying.specs.Helpers.{Ended, finished, Resumable}
+use Rattle.copying.specs.Inner.{Ended, finished, Resumable}
 use Rattle.copying.specs.declared.Place.{Place}
 use Rattle.copying.specs.declared.Round.{Round}
 use Rattle.copying.specs.declared.Wrote.{Wrote}

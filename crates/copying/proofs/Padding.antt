@@ -19,7 +19,7 @@ use Rattle.strlib.proofs.Storing.{put-put}
 use Rattle.moving.specs.Moving.{blanked}
 use Rattle.moving.proofs.Blanking.{blanked-in}
 use Rattle.copying.specs.Copying.{gap, laid, wrote, boundedCopy}
-use Rattle.copying.specs.Helpers.{Ended, finished}
+use Rattle.copying.specs.Inner.{Ended, finished}
 use Rattle.copying.specs.declared.Wrote.{Wrote}
 
 -- ---- the gap

@@ -1,5 +1,5 @@
 pub mod Copying
 pub mod Resuming
 pub mod RoundRule
-pub mod Helpers
+pub mod Inner
 pub mod Examples

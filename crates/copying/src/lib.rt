@@ -12,7 +12,7 @@ ghost use lib.ListN.{length, take};
 ghost use Rattle.strlib.specs.Pointer.{sized};
 ghost use Rattle.copying.specs.Copying.{gap};
 ghost use Rattle.copying.specs.Resuming.{resumed};
-ghost use Rattle.copying.specs.Helpers.{Ended, finished, Next, movedNext, Resumable};
+ghost use Rattle.copying.specs.Inner.{Ended, finished, Next, movedNext, Resumable};
 pub use copies::append;
 pub use copies::copy;
 pub use joins::join;

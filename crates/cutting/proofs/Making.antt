@@ -14,7 +14,8 @@ use Rattle.strlib.specs.Pointer.{pointer, sized, partOf, storeFits, textOf, rea
 use Rattle.strlib.specs.Refusal.{refused, gives, also}
 use Rattle.strlib.specs.declared.StrPtr.{StrPtr}
 use Rattle.cutting.proofs.Bounding.{counted-is, between-is, trimmed-le}
-use Rattle.cutting.specs.Cutting.{trimmed, second, inBounds, cutOf, cutReads, cutChecks, cutRefusal, cutRule, Cuttable, Inside}
+use Rattle.cutting.specs.Cutting.{trimmed, second, inBounds, cutOf, cutReads, cutChecks, cutRefusal, cutRule}
+use Rattle.cutting.specs.Inner.{Cuttable, Inside}
 use Rattle.cutting.specs.declared.Cut.{Cut}
 use Rattle.cutting.specs.declared.Cut.the-variants.{Relative, Counted, Between, Trimmed}
 

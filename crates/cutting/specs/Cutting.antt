@@ -1,6 +1,5 @@
 -- The four cuts: 01, "Cutting". Assumes nothing.
-use Prim.Native.Nat.{ℕ, suc, _+_, _-_, _≤_, _<_}
-use mathlib.Core.Path.{_≡_}
+use Prim.Native.Nat.{ℕ, suc, _+_, _-_}
 use mathlib.Core.Bool.{Bool, true, cond, _&&_}
 use mathlib.Core.List.{List, [], _∷_}
 use lib.Dec.{leb, eqb}
@@ -60,13 +59,3 @@ cutRefusal s p c = first (cutChecks s p c)
 
 unfoldable pub cutRule : List ℕ → StrPtr → Cut → Outcome StrPtr
 cutRule s p c = outcome (cutRefusal s p c) (cutOf s p c)
-
--- what the code asks before it cuts: the room is in order, its end is a number that the machine has, and the bounds hold
-pub record Cuttable (p : StrPtr) (c : Cut) : Type 0 where
-  pub room : p .length ≤ p .maximum
-  pub end : p .start + p .maximum < 9223372036854775808
-  pub bounds : inBounds p c ≡ true
-
-pub record Inside (p : StrPtr) (skip : ℕ) : Type 0 where
-  pub within : skip ≤ p .maximum
-  pub end : p .start + p .maximum < 9223372036854775808

@@ -1,3 +1,4 @@
 pub mod Cutting
 pub mod Part
+pub mod Inner
 pub mod Examples

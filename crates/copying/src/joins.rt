@@ -12,9 +12,9 @@ fn join_refusal(store: &[u8], destination: StrPtr, list: StrList, count: usize) 
     let found = strlib::check_store(store);
     let found = strlib::check(found, 3, count <= StrPtr::LIST_MAX);
     let found = strlib::check_good(found, n, destination);
-    let found = strlib::check_all_good(found, n, list, count);
+    let found = strlib::check_all_good(found, store, list, count);
     let found = strlib::check_all_readable(found, store, list, count);
-    strlib::check_all_clear(found, destination, list, count)
+    strlib::check_all_clear(found, store, destination, list, count)
 }
 
 // The destination then holds the characters of the listed strings, one behind the other, cut at its maximum.

@@ -49,10 +49,10 @@ fn join_from_refusal(
     let found = strlib::check_store(store);
     let found = strlib::check(found, 3, count <= StrPtr::LIST_MAX);
     let found = strlib::check_good(found, n, destination);
-    let found = strlib::check_all_good(found, n, list, count);
+    let found = strlib::check_all_good(found, store, list, count);
     let found = strlib::check_all_readable(found, store, list, count);
     let found = strlib::check(found, 4, is_place(list, count, from));
-    strlib::check_all_clear(found, destination, list, count)
+    strlib::check_all_clear(found, store, destination, list, count)
 }
 
 // One round of a join: the destination then holds the joined characters from the given place on, cut at its maximum.

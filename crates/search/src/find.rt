@@ -76,7 +76,7 @@ fn search_refusal(store: &[u8], host: StrPtr, list: StrList, count: usize) -> u8
     let found = strlib::check_store(store);
     let found = strlib::check(found, 3, count <= StrPtr::LIST_MAX);
     let found = strlib::check_good(found, n, host);
-    let found = strlib::check_all_good(found, n, list, count);
+    let found = strlib::check_all_good(found, store, list, count);
     let found = strlib::check_readable(found, store, host);
     strlib::check_all_readable(found, store, list, count)
 }

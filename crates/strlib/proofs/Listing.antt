@@ -8,8 +8,11 @@ use native.Mathlib.Omega.{arith}
 use lib.ListN.{length, take, drop, getD, length-take, drop-of-length-le}
 use lib.Seq.{drop-cons, getD-take}
 use borrow.Author.Needs.{needs}
+use borrow.Author.Tests.{eq-eqb, ne-eqb}
 use Rattle.strlib.proofs.Refusing.{and-both}
-use Rattle.strlib.specs.Pointer.{all}
+use Rattle.strlib.specs.Inner.{passes}
+use Rattle.strlib.specs.Pointer.{goodIn, readable, clear, all}
+use Rattle.strlib.specs.declared.StrPtr.{StrPtr}
 
 -- what is left of the first c of a list, one element taken off
 pub prefix-cons : {A : Type 0} (l : List A) (c i : ℕ) (d : A) → i < c → i < length l → drop i (take c l) ≡ getD l i d ∷ drop (i + 1) (take c l)
@@ -45,3 +48,19 @@ all-at f (x ∷ l) zero d e h = and-both (f x) (all f l) e .0
 all-at f (x ∷ l) (suc i) d e h = all-at f l i d (and-both (f x) (all f l) e .1) (omega arith)
 
 pub ruleset all-laws = (needs, all-step, all-stop, all-end, all-over)
+
+-- the test that a refusal's number names
+module _ (n : ℕ) (s : List ℕ) (room p : StrPtr) (b : Bool) where
+  pub passes-good : n ≡ 1 → b ≡ goodIn (length s) p → b ≡ passes n s room p
+  unfolding passes
+  passes-good e h = rw (eq-eqb n 1 e) h
+
+  pub passes-readable : (n ≡ 1 → ⊥) → n ≡ 2 → b ≡ readable s p → b ≡ passes n s room p
+  unfolding passes
+  passes-readable e f h = rw (ne-eqb n 1 e, eq-eqb n 2 f) h
+
+  pub passes-clear : (n ≡ 1 → ⊥) → (n ≡ 2 → ⊥) → b ≡ clear room p → b ≡ passes n s room p
+  unfolding passes
+  passes-clear e f h = rw (ne-eqb n 1 e, ne-eqb n 2 f) h
+
+pub ruleset passes-laws = (needs, passes-good, passes-readable, passes-clear)

@@ -2,3 +2,4 @@ pub mod Pointer
 pub mod Quoted
 pub mod Refusal
 pub mod Store
+pub mod Inner

@@ -1,19 +1,20 @@
 use mathlib.Core.Path.{_≡_}
 use Prim.Native.Nat.{_-_}
 use lib.ListN.{length, take, drop}
-use Rattle.strlib.specs.Pointer.{readable, all}
+use Rattle.strlib.specs.Inner.{passes}
+use Rattle.strlib.specs.Pointer.{all}
 use Rattle.strlib.proofs.Listing.{all-laws}
-use Rattle.strlib.proofs.lists.all_readable.Statement.{statement}
-use Rattle.strlib.proofs.lists.all_readable.Tie as tie
+use Rattle.strlib.proofs.lists.all_pass.Statement.{statement}
+use Rattle.strlib.proofs.lists.all_pass.Tie as tie
 
 abbrev Inv-loop : tie.InvT-loop
-Inv-loop store count list i₀ i = (length list ≡ 32) × (all (readable store) (take count list) ≡ all (readable store) (drop i (take count list)))
+Inv-loop number store room count list i₀ i = (length list ≡ 32) × (all (passes number store room) (take count list) ≡ all (passes number store room) (drop i (take count list)))
 
 abbrev μ-loop : tie.MeasureT-loop
-μ-loop store count list i₀ i = count - i
+μ-loop number store room count list i₀ i = count - i
 
-pub all-readable-spec : {M : Type 1} → statement M
-all-readable-spec =
+pub all-pass-spec : {M : Type 1} → statement M
+all-pass-spec =
     tie.close
     (tie.spec
     Inv-loop

@@ -1,0 +1,265 @@
+-- Laws of the run's code: each return is a clause of the rule. Assumes nothing.
+use mathlib.Core.Path.{_≡_, refl, sym, ap, _∙_}
+use mathlib.Core.Bool.{Bool, true, false, _&&_, and-false}
+use mathlib.Core.List.{List, [], _∷_, _++_}
+use Prim.Native.Nat.{ℕ, zero, suc, _+_, _-_, _*_, _≤_, _<_}
+use native.Mathlib.Numerals.{add-one}
+use native.Mathlib.Omega.{arith}
+use lib.Dec.{leb, ltb}
+use lib.ListN.{length, getD, drop}
+use borrow.Author.Needs.{needs}
+use borrow.Author.Tests.{leb-true, le-leb, lt-leb, lt-ltb, le-ltb}
+use Rattle.strlib.proofs.Listing.{all-at}
+use Rattle.strlib.proofs.Pointing.{fits-is, good-is, text-length}
+use Rattle.strlib.proofs.Refusing.{and-both, inTurn, first-is, first-before, first-behind, passed, also-found, outcome-no}
+use Rattle.strlib.specs.Pointer.{textOf, all, characters, readable}
+use Rattle.strlib.specs.Refusal.{Outcome, refused, gives, first, outcome}
+use Rattle.strlib.specs.declared.StrPtr.{StrPtr}
+use Rattle.search.specs.Search.{Result, nothing, found}
+use Rattle.table.specs.Run.{sizeOf, wordOf, isSized, Walk, bad, rests, onlyIf, noted, enter, step, walk, runOver, isRest, ranOf, runRefusal, runRule}
+use Rattle.table.specs.Inner.{noteOf, restsOf, walkedOf, Entered, beforeChecks, beforeRun, ended}
+use Rattle.table.specs.declared.Note.{Note}
+use Rattle.table.specs.declared.Noted.{Noted}
+use Rattle.table.specs.declared.Noted.the-variants.{None, At}
+use Rattle.table.specs.declared.Progress.{Progress}
+use Rattle.table.specs.declared.Walked.{Walked}
+use Rattle.table.specs.declared.Walked.the-variants.{Rests, Bad}
+use Rattle.table.proofs.Walking.{enter-pos, step-pos, walk-bad, walk-stop, RestsIn, in-enter, in-step, walk-turn, walk-end}
+
+positive : (q : ℕ) → (q ≡ 0 → ⊥) → 0 < q
+positive zero y = absurd (y refl)
+positive (suc q) y = omega arith
+
+-- ---- state q is entered with n characters read and the note r; g and k are what was read of its words
+
+module _ (ws : List ℕ) (q n : ℕ) (r : Result) where
+  pub enter-stop : q ≡ 0 → rests q n r ≡ enter ws q n r
+  unfolding enter
+  enter-stop z = rw z
+
+  module _ (y : q ≡ 0 → ⊥) (g : ℕ) (e : g ≡ wordOf ws q 128) where
+    entered : enter ws q n r ≡ noted q g (wordOf ws q 129) n r
+    entered = enter-pos ws q n r (positive q y) ∙ rw e
+
+    pub enter-none : g ≡ 0 → rests q n r ≡ enter ws q n r
+    enter-none z = sym (entered ∙ rw z)
+
+    pub enter-many : 32 < g → bad ≡ enter ws q n r
+    enter-many h = go g h ∙ sym entered
+      where
+        go : (x : ℕ) → 32 < x → bad ≡ noted q x (wordOf ws q 129) n r
+        go zero y = absurd (omega arith)
+        go (suc x) y = rw (lt-leb (suc x) 32 y)
+
+    module _ (k : ℕ) (d : k ≡ wordOf ws q 129) (z : g ≡ 0 → ⊥) (s : g ≤ 32) where
+      pub enter-long : n < k → bad ≡ enter ws q n r
+      enter-long h = go g z s ∙ ap (λ (l : ℕ). noted q g l n r) d ∙ sym entered
+        where
+          go : (x : ℕ) → (x ≡ 0 → ⊥) → x ≤ 32 → bad ≡ noted q x k n r
+          go zero y b = absurd (y refl)
+          go (suc x) y b = rw (le-leb (suc x) 32 b, lt-leb k n h)
+
+      pub enter-good : k ≤ n → rests q n (found g (n - k + 1) (n + 1)) ≡ enter ws q n r
+      enter-good h = go g z s ∙ ap (λ (l : ℕ). noted q g l n r) d ∙ sym entered
+        where
+          go : (x : ℕ) → (x ≡ 0 → ⊥) → x ≤ 32 → rests q n (found x (n - k + 1) (n + 1)) ≡ noted q x k n r
+          go zero y b = absurd (y refl)
+          go (suc x) y b = rw (le-leb (suc x) 32 b, le-leb k n h, add-one (n - k), add-one n)
+
+pub ruleset enter-laws = (needs, enter-stop, enter-none, enter-many, enter-long, enter-good)
+
+-- ---- a character is read
+
+module _ (ws : List ℕ) (size q n : ℕ) (r : Result) (c : ℕ) where
+  pub step-stop : q ≡ 0 → rests q n r ≡ step ws size (rests q n r) c
+  unfolding step
+  step-stop z = rw z
+
+  module _ (y : q ≡ 0 → ⊥) (t : ℕ) (e : t ≡ wordOf ws q c) where
+    stepped : step ws size (rests q n r) c ≡ onlyIf (ltb t size) (enter ws t (suc n) r)
+    stepped = step-pos ws size q n r c (positive q y) ∙ rw e
+
+    pub step-over : size ≤ t → bad ≡ step ws size (rests q n r) c
+    step-over h = sym (stepped ∙ rw (le-ltb t size h))
+
+    pub step-on : t < size → (w : Walk) → w ≡ enter ws t (n + 1) r → w ≡ step ws size (rests q n r) c
+    step-on h w p = p ∙ sym (stepped ∙ rw (lt-ltb t size h, add-one n))
+
+pub step-next : (ws : List ℕ) (size q n t : ℕ) → Entered ws size q n → t < size → Entered ws size t n
+step-next ws size q n t s h = record { state = h; long = s .long; near = s .near }
+
+pub ruleset step-laws = (needs, step-stop, step-over, step-on, step-next)
+
+-- ---- the loop: what is left of the text is walked from where the run rests
+
+landed : (size m : ℕ) (p : Progress) (w : Walk) → restsOf p ≡ w → RestsIn size m w → (p .state < size) × (p .read ≤ m)
+landed size m p w e h = rw (← e) at h
+
+module _ (ws : List ℕ) (size : ℕ) (h : List ℕ) (i : ℕ) (p : Progress) where
+  module _ (all : Walk) (e : all ≡ walk ws size (drop i h) (restsOf p)) where
+    pub walk-stopped : p .state ≡ 0 → restsOf p ≡ all
+    walk-stopped z = sym (e ∙ rw z (walk-stop ws size (drop i h) (p .read) (noteOf (p .last))))
+
+    pub walk-over : length h ≤ i → restsOf p ≡ all
+    walk-over l = sym (e ∙ walk-end ws size h i (restsOf p) l)
+
+    module _ (s : Walked) (d : walkedOf s ≡ step ws size (restsOf p) (getD h i 0)) (l : i < length h) where
+      turned : all ≡ walk ws size (drop (i + 1) h) (walkedOf s)
+      turned = e ∙ walk-turn ws size h i (restsOf p) l ∙ ap (walk ws size (drop (i + 1) h)) (sym d)
+
+      pub walk-refused : s ≡ Bad → bad ≡ all
+      walk-refused z = sym (turned ∙ ap (λ (x : Walked). walk ws size (drop (i + 1) h) (walkedOf x)) z ∙ walk-bad ws size (drop (i + 1) h))
+
+      pub walk-on : (p′ : Progress) → s ≡ Rests p′ → all ≡ walk ws size (drop (i + 1) h) (restsOf p′)
+      walk-on p′ z = turned ∙ ap (λ (x : Walked). walk ws size (drop (i + 1) h) (walkedOf x)) z
+
+  module _ (s : Walked) (d : walkedOf s ≡ step ws size (restsOf p) (getD h i 0)) (p′ : Progress) (z : s ≡ Rests p′) (a : p .state < size) where
+    lands : (m : ℕ) → p .read ≤ m → (p′ .state < size) × (p′ .read ≤ suc m)
+    lands m b =
+        landed size (suc m) p′ (step ws size (restsOf p) (getD h i 0)) (sym (ap walkedOf z) ∙ d)
+        (in-step ws size m (restsOf p) (getD h i 0) (a, b))
+
+    pub walk-state : p′ .state < size
+    walk-state = lands (p .read) (omega arith) .0
+
+    pub walk-read : (n : ℕ) → p .read ≤ n + i → p′ .read ≤ n + (i + 1)
+    walk-read n b = omega (arith, lands (n + i) b .1)
+
+pub walk-entered : (ws : List ℕ) (size q n k i : ℕ) (p : Progress) → Entered ws size q (n + k) → p .state < size → p .read ≤ n + i → i < k
+    → Entered ws size (p .state) (p .read + 1)
+walk-entered ws size q n k i p s a b l = record { state = a; long = s .long; near = omega (arith, s .near) }
+
+pub character-at : (h : List ℕ) (i : ℕ) → characters h ≡ true → i < length h → getD h i 0 ≤ 127
+unfolding characters
+character-at h i e l = leb-true (getD h i 0) 127 (all-at (λ x. leb x 127) h i 0 e l)
+
+pub ruleset walk-laws = (needs, walk-stopped, walk-over, walk-refused, walk-on, walk-state, walk-read, walk-entered, character-at)
+
+-- ---- the first word and the number of words
+
+module _ (ws : List ℕ) where
+  pub sized-none : length ws ≡ 0 → false ≡ isSized ws
+  unfolding isSized
+  sized-none e = go ws e
+    where
+      go : (ws : List ℕ) → length ws ≡ 0 → false ≡ (leb 2 (sizeOf ws) && (leb (sizeOf ws) 242 && leb (1 + 130 * sizeOf ws) (length ws)))
+      go [] e = refl
+      go (w ∷ ws) e = absurd (omega arith)
+
+  module _ (k : ℕ) (e : k ≡ sizeOf ws) where
+    pub sized-low : k < 2 → false ≡ isSized ws
+    unfolding isSized
+    sized-low l = rw (← e, lt-leb 2 k l)
+
+    pub sized-high : 242 < k → false ≡ isSized ws
+    unfolding isSized
+    sized-high l = rw (← e, lt-leb k 242 l, and-false (leb 2 k))
+
+    pub sized-long : 2 ≤ k → k ≤ 242 → leb (1 + 130 * k) (length ws) ≡ isSized ws
+    unfolding isSized
+    sized-long a b = rw (← e, le-leb 2 k a, le-leb k 242 b)
+
+pub ruleset sized-laws = (needs, sized-none, sized-low, sized-high, sized-long)
+
+pub record Sized (ws : List ℕ) : Type 0 where
+  pub low : 2 ≤ sizeOf ws
+  pub high : sizeOf ws ≤ 242
+  pub long : 1 + 130 * sizeOf ws ≤ length ws
+
+pub sized-is : (ws : List ℕ) → isSized ws ≡ true → Sized ws
+unfolding isSized
+sized-is ws e =
+    let a = and-both (leb 2 (sizeOf ws)) _ e in
+    let b = and-both (leb (sizeOf ws) 242) _ (a .1) in
+    record { low = leb-true _ _ (a .0); high = leb-true _ _ (b .0); long = leb-true _ _ (b .1) }
+
+pub is-sized : (ws : List ℕ) → 2 ≤ sizeOf ws → sizeOf ws ≤ 242 → 1 + 130 * sizeOf ws ≤ length ws → isSized ws ≡ true
+unfolding isSized
+is-sized ws a b c = rw (le-leb 2 (sizeOf ws) a, le-leb (sizeOf ws) 242 b, le-leb (1 + 130 * sizeOf ws) (length ws) c)
+
+-- ---- enter, then walk
+
+module _ (ws h : List ℕ) (size : ℕ) (e : size ≡ sizeOf ws) (y : isSized ws ≡ true) where
+  pub start-entered : Entered ws size 1 0
+  start-entered = let z = sized-is ws y in record { state = omega (arith, z .low); long = omega (arith, z .long); near = omega arith }
+
+  module _ (s : Walked) (d : walkedOf s ≡ enter ws 1 0 nothing) where
+    over : walk ws size h (walkedOf s) ≡ runOver ws h
+    unfolding runOver
+    over = rw (← e, d)
+
+    pub start-bad : s ≡ Bad → bad ≡ runOver ws h
+    start-bad z = sym (walk-bad ws size h) ∙ ap (λ (x : Walked). walk ws size h (walkedOf x)) (sym z) ∙ over
+
+    pub start-on : (p : Progress) → s ≡ Rests p → (w : Walk) → w ≡ walk ws size h (restsOf p) → w ≡ runOver ws h
+    start-on p z w x = x ∙ ap (λ (x : Walked). walk ws size h (walkedOf x)) (sym z) ∙ over
+
+    pub start-near : length h ≤ 65536 → (p : Progress) → s ≡ Rests p → Entered ws size (p .state) (p .read + length h)
+    start-near l p z =
+        let k = start-entered in
+        let q = landed size 0 p (enter ws 1 0 nothing) (sym (ap walkedOf z) ∙ d) (in-enter ws size 1 0 0 nothing (k .state) (omega arith)) in
+        record { state = q .0; long = k .long; near = omega (arith, q .1) }
+
+pub start-first : (ws : List ℕ) → isSized ws ≡ true → 0 < length ws
+start-first ws y = omega (arith, sized-is ws y .long)
+
+pub ruleset start-laws = (needs, start-first, start-entered, start-bad, start-on, start-near)
+
+-- ---- what a run answers
+
+module _ (w : Walked) where
+  pub ended-bad : w ≡ Bad → refused 10 ≡ ended (walkedOf w)
+  ended-bad e = rw e
+
+  module _ (p : Progress) (e : w ≡ Rests p) where
+    pub ended-none : p .last ≡ None → gives (nothing, p .read) ≡ ended (walkedOf w)
+    ended-none d = rw e (ap (λ (m : Noted). gives (noteOf m, p .read)) (sym d))
+
+    pub ended-at : (m : Note) → p .last ≡ At m → gives (found (m .string) (m .pos1) (m .pos2), p .read) ≡ ended (walkedOf w)
+    ended-at m d = rw e (ap (λ (m : Noted). gives (noteOf m, p .read)) (sym d))
+
+pub ruleset ended-laws = (needs, ended-bad, ended-none, ended-at)
+
+-- ---- the call
+
+pub run-checked : (s : List ℕ) (host : StrPtr) (ws : List ℕ) (k : ℕ) → k ≡ inTurn 0 (beforeChecks s host ws) → k ≡ beforeRun s host ws
+unfolding beforeRun
+run-checked s host ws k e = first-is (beforeChecks s host ws) refl k e
+
+module _ (s : List ℕ) (host : StrPtr) (ws : List ℕ) where
+  abbrev afterwards : List (ℕ × Bool)
+  afterwards = (10, isRest (runOver ws (textOf s host))) ∷ []
+
+  -- nothing was refused before: the answer is the run's
+  ran : beforeRun s host ws ≡ 0 → ended (runOver ws (textOf s host)) ≡ runRule s host ws
+  unfolding beforeRun runRefusal runRule outcome
+  ran z = rw (first-behind (beforeChecks s host ws) afterwards refl z) (go (runOver ws (textOf s host)))
+    where
+      go : (w : Walk) → ended w ≡ outcome (first ((10, isRest w) ∷ [])) (ranOf w)
+      go bad = refl
+      go (rests q n r) = refl
+
+  module _ (k : ℕ) (e : k ≡ beforeRun s host ws) where
+    pub run-refused : (k ≡ 0 → ⊥) → refused k ≡ runRule s host ws
+    unfolding beforeRun runRefusal runRule
+    run-refused h = outcome-no k (runRefusal s host ws) (first-before (beforeChecks s host ws) afterwards k e h) (ranOf (runOver ws (textOf s host))) h
+
+    module _ (z : k ≡ 0) where
+      pub run-sized : isSized ws ≡ true
+      unfolding beforeRun
+      run-sized = passed (beforeChecks s host ws) refl (sym e ∙ z) .1 .1 .1 .0
+
+      pub run-characters : (t : List ℕ) → t ≡ textOf s host → characters t ≡ true
+      unfolding beforeRun readable
+      run-characters t p = ap characters p ∙ passed (beforeChecks s host ws) refl (sym e ∙ z) .1 .1 .0
+
+      pub run-short : (t : List ℕ) → t ≡ textOf s host → length t ≤ 65536
+      unfolding beforeRun
+      run-short t p =
+          let c = passed (beforeChecks s host ws) refl (sym e ∙ z) in
+          omega (arith, ap length p, text-length s host (c .1 .0), good-is (length s) host (c .1 .0), fits-is s (c .0))
+
+      pub run-given : (t : List ℕ) → t ≡ textOf s host → (w : Walk) → w ≡ runOver ws t → (a : Outcome (Result × ℕ)) → a ≡ ended w → a ≡ runRule s host ws
+      run-given t p w d a x = x ∙ ap ended (d ∙ ap (runOver ws) p) ∙ ran (sym e ∙ z)
+
+pub ruleset run-laws = (needs, run-refused, run-sized, run-characters, run-short, run-given)

@@ -1,0 +1,13 @@
+use Rattle.table.proofs.Running.{run-checked}
+use Rattle.table.proofs.runs.run_refusal.Statement.{statement}
+use Rattle.table.proofs.runs.run_refusal.Tie as tie
+
+pub run-refusal-spec : {M : Type 1} → statement M
+run-refusal-spec =
+    tie.close
+    (tie.spec
+    (λ c κs. tt)
+    (λ c κs. tt)
+    (λ c κs. tt)
+    (λ c κs. tt)
+    (λ c. run-checked _ _ _ _ (cc)))

@@ -1,0 +1,9 @@
+pub mod Prefixes
+pub mod Reaching
+pub mod Noting
+pub mod Numbering
+pub mod Searching
+pub mod Targeting
+pub mod Rowing
+pub mod Writing
+pub mod Levelling

@@ -27,7 +27,8 @@ use Rattle.copying.specs.Copying.{joined}
 use Rattle.copying.specs.Resuming.{lengthAt, before, placeAt, piece, completes, nextPlace, roundOf, resumed}
 use Rattle.copying.specs.Inner.{Next, movedNext, Resumable}
 use Rattle.copying.specs.declared.Round.{Round}
-use Rattle.copying.proofs.Texts.{texts-long, texts-drop, joined-drop, before-add}
+use Rattle.strlib.proofs.Texts.{texts-long, texts-drop}
+use Rattle.copying.proofs.Texts.{joined-drop, before-add}
 use Rattle.copying.proofs.Placing.{length-in, place-skip}
 
 -- ---- moving the next characters of a source

@@ -18,7 +18,8 @@ use Rattle.strlib.proofs.Storing.{put-length}
 use Rattle.copying.specs.Resuming.{placeIn, offset, piece, completes, nextPlace, roundOf, resumed, joinFromChecks, joinFromRefusal, joinFromRule}
 use Rattle.copying.specs.RoundRule.{firstPlace, placeAfter, placeOf, Chain, ChainRule, roundAfter, storeAfter}
 use Rattle.copying.specs.declared.Place.{Place}
-use Rattle.copying.proofs.Texts.{texts-long, texts-at, texts-readable, texts-kept}
+use Rattle.strlib.proofs.Texts.{texts-long, texts-readable}
+use Rattle.copying.proofs.Texts.{texts-at, texts-kept}
 use Rattle.copying.proofs.Placing.{is-place}
 use Rattle.copying.proofs.Rounding.{place-rule}
 use Rattle.copying.proofs.Chaining.{chain-rule}

@@ -7,7 +7,7 @@ use native.Mathlib.Nat.{add-assoc}
 use native.Mathlib.Omega.{arith}
 use lib.ListN.{length, take, drop, getD}
 use lib.Seq.{drop-nil, take-nil, take-all, drop-append-add}
-use Rattle.strlib.specs.Pointer.{goodIn, characters, readable, clear, all, texts}
+use Rattle.strlib.specs.Pointer.{goodIn, clear, all, texts}
 use Rattle.strlib.specs.Store.{put}
 use Rattle.strlib.specs.declared.StrPtr.{StrPtr}
 use Rattle.strlib.proofs.Pointing.{text-length}
@@ -18,27 +18,11 @@ use Rattle.copying.specs.Resuming.{lengthAt, before}
 
 -- ---- string by string
 
-pub texts-long : (s : List ℕ) (ps : List StrPtr) → length (texts s ps) ≡ length ps
-unfolding texts
-texts-long s [] = refl
-texts-long s (p ∷ ps) = ap suc (texts-long s ps)
-
-pub texts-drop : (s : List ℕ) (ps : List StrPtr) (i : ℕ) → drop i (texts s ps) ≡ texts s (drop i ps)
-unfolding texts
-texts-drop s [] i = rw (drop-nil, drop-nil)
-texts-drop s (p ∷ ps) zero = refl
-texts-drop s (p ∷ ps) (suc i) = texts-drop s ps i
-
 pub texts-at : (s : List ℕ) (ps : List StrPtr) (i : ℕ) → all (goodIn (length s)) ps ≡ true → length (getD (texts s ps) i []) ≡ lengthAt ps i
 unfolding texts all lengthAt
 texts-at s [] i g = refl
 texts-at s (p ∷ ps) zero g = text-length s p (and-both (goodIn (length s) p) (all (goodIn (length s)) ps) g .0)
 texts-at s (p ∷ ps) (suc i) g = texts-at s ps i (and-both (goodIn (length s) p) (all (goodIn (length s)) ps) g .1)
-
-pub texts-readable : (s : List ℕ) (ps : List StrPtr) → all (readable s) ps ≡ all characters (texts s ps)
-unfolding texts all readable
-texts-readable s [] = refl
-texts-readable s (p ∷ ps) = rw (texts-readable s ps)
 
 -- a write in the destination's room leaves each string outside it as it was
 pub texts-kept : (s : List ℕ) (destination : StrPtr) (ps : List StrPtr) (xs : List ℕ) → goodIn (length s) destination ≡ true → all (clear destination) ps ≡ true

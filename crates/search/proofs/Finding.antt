@@ -13,17 +13,11 @@ use borrow.Author.Needs.{needs}
 use borrow.Author.Tests.{le-leb, lt-leb}
 use Rattle.strlib.proofs.Pointing.{leb-same}
 use Rattle.strlib.proofs.Listing.{prefix-cons, prefix-end}
+use Rattle.strlib.proofs.Texts.{listed-text}
 use Rattle.strlib.specs.Pointer.{textOf, texts}
 use Rattle.strlib.specs.declared.StrPtr.{StrPtr}
 use Rattle.search.specs.Search.{isPrefix, further, closed, lengthOf, Result, nothing, found, onward, plainSearch}
 use Rattle.search.specs.Inner.{placed}
-
--- the characters of one of listed strings
-pub listed-text : (s : List ℕ) (ps : List StrPtr) (k : ℕ) (d : StrPtr) → k < length ps → getD (texts s ps) k [] ≡ textOf s (getD ps k d)
-unfolding texts
-listed-text s [] k d h = absurd (omega arith)
-listed-text s (p ∷ ps) zero d h = refl
-listed-text s (p ∷ ps) (suc k) d h = listed-text s ps k d (omega arith)
 
 -- ---- the strings tried at a position
 

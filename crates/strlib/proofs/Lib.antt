@@ -1,4 +1,5 @@
 pub mod Refusing
 pub mod Pointing
 pub mod Listing
+pub mod Texts
 pub mod Storing

@@ -9,10 +9,10 @@ use lib.Dec.{leb, ltb}
 use lib.ListN.{length, getD, drop}
 use borrow.Author.Needs.{needs}
 use borrow.Author.Tests.{leb-true, le-leb, lt-leb, lt-ltb, le-ltb}
-use Rattle.strlib.proofs.Listing.{all-at}
 use Rattle.strlib.proofs.Pointing.{fits-is, good-is, text-length}
 use Rattle.strlib.proofs.Refusing.{and-both, inTurn, first-is, first-before, first-behind, passed, also-found, outcome-no}
-use Rattle.strlib.specs.Pointer.{textOf, all, characters, readable}
+use Rattle.strlib.specs.Pointer.{textOf, characters, readable}
+use Rattle.strlib.proofs.Texts.{character-at}
 use Rattle.strlib.specs.Refusal.{Outcome, refused, gives, first, outcome}
 use Rattle.strlib.specs.declared.StrPtr.{StrPtr}
 use Rattle.search.specs.Search.{Result, nothing, found}
@@ -128,10 +128,6 @@ module _ (ws : List ℕ) (size : ℕ) (h : List ℕ) (i : ℕ) (p : Progress) wh
 pub walk-entered : (ws : List ℕ) (size q n k i : ℕ) (p : Progress) → Entered ws size q (n + k) → p .state < size → p .read ≤ n + i → i < k
     → Entered ws size (p .state) (p .read + 1)
 walk-entered ws size q n k i p s a b l = record { state = a; long = s .long; near = omega (arith, s .near) }
-
-pub character-at : (h : List ℕ) (i : ℕ) → characters h ≡ true → i < length h → getD h i 0 ≤ 127
-unfolding characters
-character-at h i e l = leb-true (getD h i 0) 127 (all-at (λ x. leb x 127) h i 0 e l)
 
 pub ruleset walk-laws = (needs, walk-stopped, walk-over, walk-refused, walk-on, walk-state, walk-read, walk-entered, character-at)
 

@@ -48,11 +48,11 @@ const STATES_MIN: usize = 2;
 const STATES_MAX: usize = 242;
 
 // Words of a state: the next states by character, then the string's number, then the length.
-const STATE_WORDS: usize = 130;
+pub const STATE_WORDS: usize = 130;
 
-const STRING_WORD: usize = 128;
+pub const STRING_WORD: usize = 128;
 
-const LENGTH_WORD: usize = 129;
+pub const LENGTH_WORD: usize = 129;
 
 fn wide(x: u16) -> usize
     ensures { λ r. ⌜ r ≡ x ⌝ }

@@ -1,0 +1,168 @@
+-- Laws of the call: its refusals, and the table from the rows. Assumes nothing.
+use mathlib.Core.Path.{_≡_, refl, sym, ap, _∙_}
+use mathlib.Core.Bool.{Bool, true, false, cond}
+use mathlib.Core.List.{List, [], _∷_, _++_}
+use Prim.Native.Nat.{ℕ, zero, suc, _+_, _*_, _≤_, _<_, min}
+use native.Mathlib.Omega.{arith}
+use lib.Dec.{leb}
+use lib.ListN.{length, take, getD, set, length-take, length-set, replicate, getD-replicate}
+use lib.Seq.{getD-set-same, getD-set-other}
+use borrow.Author.Needs.{needs}
+use borrow.Author.Tests.{le-leb, lt-leb, leb-true}
+use Rattle.strlib.proofs.Pointing.{fits-is}
+use Rattle.strlib.proofs.Refusing.{inTurn, first-is, first-before, first-behind, Passed, passed, outcome-no, outcome-yes}
+use Rattle.strlib.proofs.Texts.{texts-long, texts-readable}
+use Rattle.strlib.specs.Pointer.{textOf, texts, all, characters, readable}
+use Rattle.strlib.specs.Refusal.{Outcome, refused, gives, first, outcome}
+use Rattle.strlib.specs.declared.StrPtr.{StrPtr}
+use Rattle.search.specs.Search.{Result, plainSearch}
+use Rattle.table.proofs.Running.{is-sized}
+use Rattle.table.specs.Run.{sizeOf, isSized, Walk, rests, runOver, isRest, ranOf, runRefusal, runRule}
+use Rattle.states.proofs.Levelling.{kept-none, kept-frame, kept-trans}
+use Rattle.states.proofs.Rowing.{rows-of}
+use Rattle.states.proofs.Searching.{Answers, run-search}
+use Rattle.states.specs.State.{total, Represents}
+use Rattle.states.specs.Fill.{Rowed, Levels, Kept}
+use Rattle.translator.proofs.Rows.{ready-same}
+use Rattle.translator.specs.Translate.{listed, translateChecks, translateRefusal, Host, noteIn, Table, Words, Translated}
+use Rattle.translator.specs.Inner.{Ready, Rows, listChecks, listRefusal}
+
+-- ---- the refusals
+
+pub list-checked : (s : List ℕ) (list : List StrPtr) (count k : ℕ) → k ≡ inTurn 0 (listChecks s list count) → k ≡ listRefusal s list count
+unfolding listRefusal
+list-checked s list count k e = first-is (listChecks s list count) refl k e
+
+module _ (s : List ℕ) (list : List StrPtr) (count words : ℕ) where
+  -- the checks of the characters together, and of the words
+  abbrev sizes : List (ℕ × Bool)
+  sizes = (9, leb (total (listed s list count)) 240) ∷ (9, leb 31461 words) ∷ []
+
+  module _ (k : ℕ) (e : k ≡ listRefusal s list count) where
+    pub list-refused : (k ≡ 0 → ⊥) → k ≡ translateRefusal s list count words
+    unfolding listRefusal translateRefusal
+    list-refused h = first-before (listChecks s list count) sizes k e h
+
+    module _ (z : k ≡ 0) where
+      behind : translateRefusal s list count words ≡ first sizes
+      unfolding listRefusal translateRefusal
+      behind = first-behind (listChecks s list count) sizes refl (sym e ∙ z)
+
+      pub list-few : count ≤ 32
+      unfolding listRefusal
+      list-few = leb-true _ _ (passed (listChecks s list count) refl (sym e ∙ z) .1 .0)
+
+      pub list-room : length s ≤ 65536
+      unfolding listRefusal
+      list-room = fits-is s (passed (listChecks s list count) refl (sym e ∙ z) .0)
+
+      module _ (n : ℕ) (en : n ≡ total (listed s list count)) where
+        pub size-over : 240 < n → 9 ≡ translateRefusal s list count words
+        size-over h = sym (behind ∙ rw (← en, lt-leb n 240 h))
+
+        pub size-words : n ≤ 240 → words < 31461 → 9 ≡ translateRefusal s list count words
+        size-words h w = sym (behind ∙ rw (← en, le-leb n 240 h, lt-leb 31461 words w))
+
+        pub size-fits : n ≤ 240 → 31461 ≤ words → 0 ≡ translateRefusal s list count words
+        size-fits h w = sym (behind ∙ rw (← en, le-leb n 240 h, le-leb 31461 words w))
+
+pub ruleset refusal-laws = (needs, list-refused, list-few, list-room, size-over, size-words, size-fits)
+
+-- what was checked where nothing is refused
+pub ready-of : (s : List ℕ) (list : List StrPtr) (count : ℕ) (ws : List ℕ) → translateRefusal s list count (length ws) ≡ 0 → Ready s list count ws
+unfolding translateRefusal
+ready-of s list count ws z =
+    let ok : Passed (translateChecks s list count (length ws)) = passed (translateChecks s list count (length ws)) refl z in
+    let c : total (listed s list count) ≤ 240 = leb-true _ _ (ok .1 .1 .1 .1 .0) in
+    let d : 31461 ≤ length ws = leb-true _ _ (ok .1 .1 .1 .1 .1 .0) in
+    record {
+      few = leb-true _ _ (ok .1 .0);
+      room = fits-is s (ok .0);
+      plain = sym (texts-readable s (take count list)) ∙ ok .1 .1 .1 .0;
+      small = c;
+      long = omega arith;
+    }
+
+module _ (s : List ℕ) (list : List StrPtr) (count : ℕ) (ws : List ℕ) (k : ℕ) (e : k ≡ translateRefusal s list count (length ws)) where
+  pub translate-refused : (k ≡ 0 → ⊥) → Translated s list count ws (refused k) ws
+  unfolding Words
+  translate-refused z = record { answered = outcome-no k _ e tt z; words = rw (← e) (go k z) }
+    where
+      go : (j : ℕ) → (j ≡ 0 → ⊥) → Words j (listed s list count) ws ws
+      go zero y = absurd (y refl)
+      go (suc j) y = refl
+
+  module _ (z : k ≡ 0) where
+    pub translate-ready : Ready s list count ws
+    translate-ready = ready-of s list count ws (sym e ∙ z)
+
+    pub translate-done : (ws′ : List ℕ) → Table (listed s list count) ws ws′ → Translated s list count ws (gives tt) ws′
+    unfolding Words
+    translate-done ws′ t = let n : translateRefusal s list count (length ws) ≡ 0 = sym e ∙ z in record { answered = outcome-yes k _ e tt tt z refl; words = rw n t }
+
+pub ruleset translate-laws = (needs, translate-refused, translate-ready, translate-done)
+
+-- ---- all levels
+
+pub levels-end : (ss : List (List ℕ)) (ws ws′ fs : List ℕ) (n l : ℕ) → n ≡ total ss → n < l → Levels ss ws′ fs l 0 → Kept ws ws′ (1 + 130 * (total ss + 2)) → Rows ss ws ws′
+levels-end ss ws ws′ fs n l e h lv k = record { rows = rows-of ss ws′ fs l lv (omega arith); kept = k }
+
+few-listed : (s : List ℕ) (list : List StrPtr) (count : ℕ) → count ≤ 32 → length (listed s list count) ≤ 32
+few-listed s list count h =
+    let n : length (listed s list count) ≡ length (take count list) = texts-long s (take count list) in
+    let m : length (take count list) ≡ min count (length list) = length-take count list in
+    omega arith
+
+-- the tails of the first characters are the empty text, state 1
+pub ones : (s : List ℕ) (list : List StrPtr) (count : ℕ) (ws : List ℕ) → Ready s list count ws → (i : ℕ) → i < length (listed s list count) → _≡_ {A = ℕ} (getD (replicate 32 1) i 0) 1
+ones s list count ws r i h = getD-replicate 32 i 1 0 (omega (arith, few-listed s list count (r .few)))
+
+-- ---- the table: v is word 0, then the start's row, then all others
+
+-- words that hold the rows answer every host
+module _ (ss : List (List ℕ)) (ws : List ℕ) (holds : Represents ss ws) (few : length ss ≤ 32) (small : total ss ≤ 240) where
+  pub table-sized : isSized ws ≡ true
+  table-sized = is-sized ws (omega (arith, holds .size)) (omega (arith, holds .size)) (omega (arith, holds .size, holds .long))
+
+  rested : (w : Walk) (r : Result) → Answers w r → (isRest w ≡ true) × (ranOf w .0 ≡ r)
+  rested w r a = rw (a .is) (refl, refl)
+
+  pub table-finds : (t : List ℕ) (host : StrPtr) → Host t host → noteIn (runRule t host ws) ≡ gives (plainSearch ss (textOf t host))
+  unfolding runRule runRefusal outcome readable
+  table-finds t host h =
+      let a = rested (runOver ws (textOf t host)) (plainSearch ss (textOf t host)) (run-search ss ws holds few (textOf t host) (h .read)) in
+      rw (h .fits, h .good, h .read, table-sized, a .0) (ap gives (a .1))
+
+module _ (s : List ℕ) (list : List StrPtr) (count : ℕ) (ws : List ℕ) (r : Ready s list count ws) (n v : ℕ) (en : n ≡ total (listed s list count)) (ev : v ≡ n + 2) where
+  pub set-ready : Ready s list count (set ws 0 v)
+  set-ready = ready-same s list count ws (set ws 0 v) r (length-set ws 0 v)
+
+  module _ (ws₁ : List ℕ) (rd : Rowed (listed s list count) (set ws 0 v) ws₁ 1 []) where
+    pub row-ready : Ready s list count ws₁
+    row-ready = ready-same s list count (set ws 0 v) ws₁ set-ready (rd .frame .len)
+
+    module _ (ws₂ : List ℕ) (rs : Rows (listed s list count) ws₁ ws₂) where
+      kept : Kept (set ws 0 v) ws₂ (1 + 130 * (total (listed s list count) + 2))
+      kept =
+          kept-trans (set ws 0 v) ws₁ ws₂ _
+          (kept-frame (set ws 0 v) (set ws 0 v) ws₁ 1 (total (listed s list count) + 2) (kept-none (set ws 0 v) _) (rd .frame) (omega arith))
+          (rs .kept)
+
+      size : sizeOf ws₂ ≡ total (listed s list count) + 2
+      size = kept .front ∙ getD-set-same ws 0 v 0 (omega (arith, r .long)) ∙ omega arith
+
+      same : length ws₂ ≡ length ws
+      same = kept .len ∙ length-set ws 0 v
+
+      holds : Represents (listed s list count) ws₂
+      holds = record { size = size; long = omega (arith, r .long, same); rows = rs .rows }
+
+      pub table-made : Table (listed s list count) ws ws₂
+      table-made =
+          record {
+            low = omega (arith, size);
+            high = omega (arith, size, r .small);
+            same = same;
+            past = λ i h. kept .high i (omega (arith, size)) ∙ getD-set-other ws 0 i v 0 (λ e. omega arith);
+            finds = table-finds (listed s list count) ws₂ holds (few-listed s list count (r .few)) (r .small);
+          }

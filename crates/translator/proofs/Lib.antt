@@ -1,0 +1,7 @@
+pub mod Listing
+pub mod Writers
+pub mod Children
+pub mod Rows
+pub mod Leveling
+pub mod Checking
+pub mod Demand3

@@ -1,0 +1,44 @@
+use native.Mathlib.Omega.{arith}
+use lib.ListN.{length-set}
+use borrow.Author.Needs.{needs}
+use Rattle.translator.proofs.Checking.{row-ready, table-made}
+use Rattle.translator.proofs.levels.build.Statement.{statement}
+use Rattle.translator.proofs.levels.build.Tie as tie
+
+fill-levels-requires : tie.Need-fill-levels-requires
+fill-levels-requires c κs =
+    let rr = c .before .before .before in
+    let nr = rr .before .before in
+    let tt′ = nr .before in
+    let st = tt′ .before .before .before in
+    (row-ready _ _ _ _ (st .pre) _ _ (tt′ .total-of .ensures) (nr .narrow .ensures) _ (rr .root-row .ensures), tt′ .total-of .ensures, rr .root-row .ensures .row)
+
+same-length : tie.Need-same-length
+same-length c =
+    let fl = c .before .before in
+    let rr = fl .before .before .before .before in
+    let nr = rr .before .before in
+    let st = nr .before .before .before .before in
+    omega (arith, length-set (st .args .table .now) 0 (nr .narrow .result))
+
+returns : tie.Need-returns
+returns c =
+    let fl = c .before .before in
+    let rr = fl .before .before .before .before in
+    let nr = rr .before .before in
+    let tt′ = nr .before in
+    let st = tt′ .before .before .before in
+    table-made _ _ _ _ (st .pre) _ _ (tt′ .total-of .ensures) (nr .narrow .ensures) _ (rr .root-row .ensures) _ (fl .fill-levels .ensures)
+
+pub build-spec : {M : Type 1} → statement M
+build-spec =
+    tie.close
+    (tie.spec
+    (λ c κs. search needs)
+    (λ c. search needs)
+    (λ c κs. search needs)
+    (λ c. search needs)
+    (λ c κs. search needs)
+    fill-levels-requires
+    same-length
+    returns)

@@ -1,0 +1,13 @@
+use Rattle.translator.proofs.Checking.{list-checked}
+use Rattle.translator.proofs.levels.list_refusal.Statement.{statement}
+use Rattle.translator.proofs.levels.list_refusal.Tie as tie
+
+pub list-refusal-spec : {M : Type 1} → statement M
+list-refusal-spec =
+    tie.close
+    (tie.spec
+    (λ c κs. tt)
+    (λ c κs. tt)
+    (λ c κs. tt)
+    (λ c κs. tt)
+    (λ c. list-checked _ _ _ _ (cc)))

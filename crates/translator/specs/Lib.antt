@@ -1,0 +1,3 @@
+pub mod Translate
+pub mod Demand3
+pub mod Inner

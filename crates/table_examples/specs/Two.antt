@@ -1,0 +1,33 @@
+-- One translation and two hosts, in the words of demand 3: the answers are those of the plain search, and no table is mentioned. Assumes nothing.
+use Prim.Native.Nat.{ℕ}
+use mathlib.Core.Path.{_≡_}
+use mathlib.Core.Bool.{Bool}
+use mathlib.Core.List.{List, [], _∷_}
+use lib.ListN.{length}
+use Rattle.strlib.specs.Pointer.{storeFits, goodIn, textOf, readable}
+use Rattle.strlib.specs.Refusal.{Outcome, refused, gives, first, outcome}
+use Rattle.strlib.specs.declared.StrPtr.{StrPtr}
+use Rattle.search.specs.Search.{Result, plainSearch}
+use Rattle.table.specs.Run.{ranAnswered}
+use Rattle.translator.specs.Translate.{listed, translateRefusal, noteIn, Words}
+use Rattle.table_examples.specs.declared.TwoAnswer.{TwoAnswer}
+use Rattle.table_examples.specs.declared.TwoAnswer.the-variants.{Ran, Refused}
+
+abbrev pub hostChecks : List ℕ → StrPtr → List (ℕ × Bool)
+hostChecks s host = (3, storeFits s) ∷ (1, goodIn (length s) host) ∷ (2, readable s host) ∷ []
+
+unfoldable pub hostRefusal : List ℕ → StrPtr → ℕ
+hostRefusal s host = first (hostChecks s host)
+
+-- what is found in one host
+unfoldable pub hostRule : List (List ℕ) → List ℕ → StrPtr → Outcome Result
+hostRule ss s host = outcome (hostRefusal s host) (plainSearch ss (textOf s host))
+
+pub record SearchedTwo (s : List ℕ) (list : List StrPtr) (count : ℕ) (old s₁ : List ℕ) (host₁ : StrPtr) (s₂ : List ℕ) (host₂ : StrPtr)
+    (answer : Outcome (Outcome Result × Outcome Result)) (new : List ℕ) : Type 0 where
+  pub answered : answer ≡ outcome (translateRefusal s list count (length old)) (hostRule (listed s list count) s₁ host₁, hostRule (listed s list count) s₂ host₂)
+  pub words : Words (translateRefusal s list count (length old)) (listed s list count) old new
+
+abbrev pub twoAnswered : TwoAnswer → Outcome (Outcome Result × Outcome Result)
+twoAnswered (Ran a b) = gives (noteIn (ranAnswered a), noteIn (ranAnswered b))
+twoAnswered (Refused n) = refused n

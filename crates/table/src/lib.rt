@@ -97,11 +97,11 @@ fn step(table: &[u16], size: usize, at: Progress, c: u8) -> Walked
     requires { ⌜ Entered (now table) size (at .state) (at .read + 1) × (c ≤ 127) ⌝ }
     ensures { λ r. ⌜ walkedOf r ≡ step (now (table .entry)) size (restsOf at) c ⌝ }
 {
-    let q = at.state;
-    if q == 0 {
+    let from = at.state;
+    if from == 0 {
         return Walked::Rests(at);
     }
-    let next = wide(table[1 + STATE_WORDS * q + c as usize]);
+    let next = wide(table[1 + STATE_WORDS * from + c as usize]);
     if size <= next {
         return Walked::Bad;
     }

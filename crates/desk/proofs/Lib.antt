@@ -1,0 +1,2 @@
+pub mod LabelReading
+pub mod LabelFinding

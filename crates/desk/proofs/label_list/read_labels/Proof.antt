@@ -1,0 +1,28 @@
+use mathlib.Core.Path.{_≡_}
+use Prim.Native.Nat.{_-_, _*_, _≤_}
+use lib.ListN.{length}
+use Rattle.desk.proofs.LabelReading.{read-laws}
+use Rattle.desk.specs.Label.{recordSize, faultIn}
+use Rattle.desk.proofs.label_list.read_labels.Statement.{statement}
+use Rattle.desk.proofs.label_list.read_labels.Tie as tie
+
+abbrev Inv-loop : tie.InvT-loop
+Inv-loop list n₀ n = (recordSize * n ≤ length list) × (faultIn list n ≡ 0)
+
+abbrev μ-loop : tie.MeasureT-loop
+μ-loop list n₀ n = length list - n
+
+pub read-labels-spec : {M : Type 1} → statement M
+read-labels-spec =
+    tie.close
+    (tie.spec
+    Inv-loop
+    μ-loop
+    (λ c. search read-laws)
+    (λ c. search read-laws)
+    (λ c κs. search read-laws)
+    (λ c. search read-laws)
+    (λ c. search read-laws)
+    (λ c. search read-laws)
+    (λ c. search read-laws)
+    (λ c. search read-laws))

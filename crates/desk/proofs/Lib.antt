@@ -1,2 +1,3 @@
 pub mod LabelReading
 pub mod LabelFinding
+pub mod LabelAdding

@@ -1,0 +1,177 @@
+-- Laws of the writer: the checks in their order, and a record put behind the list in three pieces. Assumes nothing.
+use mathlib.Core.Path.{_≡_, refl, sym, ap, _∙_}
+use mathlib.Core.Bool.{Bool, true, false, cond}
+use mathlib.Core.List.{List, [], _∷_, _++_}
+use Prim.Native.Nat.{ℕ, zero, suc, _+_, _-_, _*_, _/_, _%_, _≤_, _<_}
+use native.Mathlib.Numerals.{add-one}
+use native.Mathlib.Omega.{arith}
+use lib.Dec.{leb, eqb}
+use lib.ListN.{length, getD, set, take, replicate, length-take, length-append, length-set, length-replicate}
+use lib.Seq.{paste, paste-zero, paste-suc, take-all}
+use borrow.Author.Needs.{needs}
+use borrow.Author.Tests.{leb-true, le-leb, lt-leb, eqb-true}
+use Rattle.strlib.proofs.Refusing.{and-both, inTurn, first-is, Passed, passed, ruled-no, ruled-yes}
+use Rattle.strlib.proofs.Storing.{put-length, put-put, set-put, put-more}
+use Rattle.strlib.specs.Refusal.{refused, gives, first}
+use Rattle.strlib.specs.Store.{put}
+use Rattle.moving.proofs.Blanking.{blanked-in}
+use Rattle.moving.specs.Moving.{blanked}
+use Rattle.desk.proofs.LabelReading.{earlier-none, earlier-found, earlier-zero}
+use Rattle.desk.proofs.LabelFinding.{good-begins, read-records, read-number}
+use Rattle.desk.specs.Label.{recordSize, nameWidth, limitOf, isNumber, isName, recordOf, earlier, records, listRefusal, readRule, labelCounted, keyChecks, keyRefusal, labelBytes, newChecks, newRefusal, addRefusal, addRule}
+use Rattle.desk.specs.LabelInner.{Begins, Good, Room, Writable}
+use Rattle.desk.specs.declared.label_list.LabelCount.{LabelCount}
+use Rattle.desk.specs.declared.label_list.LabelCount.the-variants.{Records, Refused as Uncounted}
+
+-- ---- the checks
+
+-- those behind the kind's and the number's
+abbrev pub addedChecks : List ℕ → ℕ → ℕ → ℕ → List ℕ → List (ℕ × Bool)
+addedChecks l room kind number name =
+    (4, leb (length name) nameWidth) ∷ (2, isName name) ∷ (11, eqb (recordOf l kind number (records l)) 0) ∷ (6, leb recordSize room) ∷ []
+
+pub new-checked : (l : List ℕ) (room kind number : ℕ) (name : List ℕ) (k : ℕ) → k ≡ inTurn (keyRefusal kind number) (addedChecks l room kind number name)
+    → k ≡ newRefusal l room kind number name
+unfolding newRefusal keyRefusal
+new-checked l room kind number name k e =
+    let j : first (keyChecks kind number) ≡ inTurn 0 (keyChecks kind number) = sym (first-is (keyChecks kind number) refl _ refl) in
+    first-is (newChecks l room kind number name) refl k (e ∙ ap (λ (i : ℕ). inTurn i (addedChecks l room kind number name)) j)
+
+pub front-length : (b : List ℕ) (n : ℕ) → n ≤ length b → n ≡ length (take n b)
+front-length b n h = rw length-take (omega arith)
+
+module _ (b : List ℕ) (n kind number : ℕ) (name : List ℕ) where
+  pub add-long : length b < n → 4 ≡ addRefusal b n kind number name
+  unfolding addRefusal
+  add-long h = rw (lt-leb n (length b) h)
+
+  module _ (h : n ≤ length b) (r : LabelCount) (e : labelCounted r ≡ readRule (take n b)) where
+    pub add-list : (k : ℕ) → r ≡ Uncounted k → k ≡ addRefusal b n kind number name
+    unfolding addRefusal
+    add-list k q =
+        let f = read-number (take n b) r e k q in
+        rw (le-leb n (length b) h) (f .0 ∙ sym (earlier-found (listRefusal (take n b)) (newRefusal (take n b) (length b - n) kind number name) (rw (f .0) at (f .1))))
+
+    pub add-new : (m k : ℕ) → r ≡ Records m → k ≡ newRefusal (take n b) (length b - n) kind number name → k ≡ addRefusal b n kind number name
+    unfolding addRefusal
+    add-new m k q f =
+        let g = read-records (take n b) r e m q in
+        rw (le-leb n (length b) h) (f ∙ sym (earlier-zero (listRefusal (take n b)) (newRefusal (take n b) (length b - n) kind number name) (g .good)))
+
+pub ruleset refusal-laws = (needs, front-length, good-begins, read-records, add-long, add-list, add-new)
+
+-- what holds where nothing is refused
+pub record Passing (b : List ℕ) (n kind number : ℕ) (name : List ℕ) : Type 0 where
+  pub inside : n ≤ length b
+  pub good : listRefusal (take n b) ≡ 0
+  pub new : Passed (newChecks (take n b) (length b - n) kind number name)
+
+pub passing : (b : List ℕ) (n kind number : ℕ) (name : List ℕ) → addRefusal b n kind number name ≡ 0 → Passing b n kind number name
+unfolding addRefusal newRefusal
+passing b n kind number name e = go (leb n (length b)) refl e
+  where
+    go : (t : Bool) → leb n (length b) ≡ t → cond t (earlier (listRefusal (take n b)) (newRefusal (take n b) (length b - n) kind number name)) 4 ≡ 0
+        → Passing b n kind number name
+    go true t f =
+        let z = earlier-none (listRefusal (take n b)) (newRefusal (take n b) (length b - n) kind number name) f in
+        record { inside = leb-true n (length b) t; good = z .0; new = passed (newChecks (take n b) (length b - n) kind number name) refl (z .1) }
+    go false t f = absurd (omega arith)
+
+-- ---- the record
+
+module _ (b t : List ℕ) (at : ℕ) where
+  pub write-start : b ≡ paste b at t 0
+  write-start = paste-zero b at t
+
+  pub write-step : (x : List ℕ) (i : ℕ) → x ≡ paste b at t i → i < length t → Room b at (length t) → set x (at + i) (getD t i 0) ≡ paste b at t (i + 1)
+  write-step x i e h r = rw (e, add-one) (paste-suc b at t i 0 (omega (arith, r .to)) h)
+
+  pub write-end : (x : List ℕ) (i : ℕ) → x ≡ paste b at t i → i ≤ length t → length t ≤ i → x ≡ put b at t
+  unfolding put
+  write-end x i e h k = let j : i ≡ length t = omega arith in rw (e, j, take-all (length t) t (omega arith))
+
+pub ruleset write-laws = (needs, write-start, write-step, write-end)
+
+pub bytes-length : (kind number : ℕ) (name : List ℕ) → length name ≤ nameWidth → length (labelBytes kind number name) ≡ recordSize
+unfolding labelBytes
+bytes-length kind number name h = simp (length-append, length-replicate) (omega arith)
+
+module _ (b : List ℕ) (at kind number : ℕ) (name : List ℕ) (w : Writable b at number name) where
+  abbrev head : List ℕ
+  head = kind ∷ number / 256 ∷ number % 256 ∷ []
+
+  abbrev headed : List ℕ
+  headed = set (set (set b at kind) (at + 1) (number / 256)) (at + 2) (number % 256)
+
+  head-put : headed ≡ put b at head
+  head-put =
+      rw (
+        set-put b at kind (omega (arith, w .room)),
+        put-more b at (kind ∷ []) (number / 256) (omega (arith, w .room)),
+        put-more b at (kind ∷ number / 256 ∷ []) (number % 256) (omega (arith, w .room)),
+      )
+
+  head-length : length headed ≡ length b
+  head-length = rw head-put (put-length b at head (omega (arith, w .room)))
+
+  pub second-in : at + 1 < length (set b at kind)
+  second-in = simp length-set (omega (arith, w .room))
+
+  pub third-in : at + 2 < length (set (set b at kind) (at + 1) (number / 256))
+  third-in = simp length-set (omega (arith, w .room))
+
+  pub name-room : Room headed (at + 3) (length name)
+  name-room = record { to = omega (arith, w .room, w .short, head-length) }
+
+  name-length : (x : List ℕ) → x ≡ put headed (at + 3) name → length x ≡ length b
+  name-length x e = rw e (put-length headed (at + 3) name (name-room .to)) ∙ head-length
+
+  pub record-is : (x y : List ℕ) → x ≡ put headed (at + 3) name → y ≡ blanked x (at + 3 + length name) (16 - length name)
+      → y ≡ put b at (labelBytes kind number name)
+  unfolding labelBytes
+  record-is x y e f =
+      let l : length x ≡ length b = name-length x e in
+      let k : at + 3 + length name ≡ at + length (head ++ name) = rw length-append (omega arith) in
+      f ∙ blanked-in x (at + 3 + length name) (16 - length name) (omega (arith, w .room, w .short))
+      ∙ rw (e, head-put, put-put b at head (omega (arith, w .room)) name, k) (put-put b at (head ++ name) (omega (arith, w .room)) (replicate (16 - length name) 32))
+
+  pub record-length : (x y : List ℕ) → x ≡ put headed (at + 3) name → y ≡ blanked x (at + 3 + length name) (16 - length name) → length y ≡ length b
+  record-length x y e f =
+      rw (record-is x y e f) (put-length b at (labelBytes kind number name) (omega (arith, w .room, bytes-length kind number name (w .short))))
+
+pub ruleset piece-laws = (needs, second-in, third-in, name-room, record-is, record-length)
+
+-- ---- the call
+
+limit-small : (kind : ℕ) → limitOf kind ≤ 128
+unfolding limitOf
+limit-small kind = go (eqb kind 1) (eqb kind 2)
+  where
+    go : (s t : Bool) → cond s 64 (cond t 128 0) ≤ 128
+    go true t = omega arith
+    go false true = omega arith
+    go false false = omega arith
+
+module _ (b : List ℕ) (n kind number : ℕ) (name : List ℕ) (k : ℕ) (e : k ≡ addRefusal b n kind number name) where
+  pub add-refused : (k ≡ 0 → ⊥) → (refused k, b) ≡ addRule b n kind number name
+  unfolding addRule
+  add-refused h = ruled-no k (addRefusal b n kind number name) e (n + recordSize) (put b n (labelBytes kind number name)) b h
+
+  module _ (z : k ≡ 0) where
+    pub add-writable : Writable b n number name
+    unfolding isNumber
+    add-writable =
+        let p = passing b n kind number name (sym e ∙ z) in
+        let q = and-both (leb 1 number) (leb number (limitOf kind)) (p .new .1 .0) in
+        let s = leb-true number (limitOf kind) (q .1) in
+        let r = leb-true recordSize (length b - n) (p .new .1 .1 .1 .1 .1 .0) in
+        record { room = omega (arith, p .inside); small = omega (arith, limit-small kind); short = leb-true (length name) nameWidth (p .new .1 .1 .0) }
+
+    pub add-room : n + recordSize ≤ length b
+    add-room = add-writable .room
+
+    pub add-done : (x : List ℕ) → x ≡ put b n (labelBytes kind number name) → (gives (n + recordSize), x) ≡ addRule b n kind number name
+    unfolding addRule
+    add-done x q = ruled-yes k (addRefusal b n kind number name) e (n + recordSize) (n + recordSize) x (put b n (labelBytes kind number name)) b z refl q
+
+pub ruleset add-laws = (needs, add-refused, add-writable, add-done)

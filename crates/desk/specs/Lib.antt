@@ -1,3 +1,4 @@
 pub mod Label
 pub mod LabelInner
 pub mod LabelWritten
+pub mod LabelExamples

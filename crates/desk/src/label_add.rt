@@ -22,7 +22,11 @@ fn new_refusal(list: &[u8], n: usize, room: usize, kind: u8, number: usize, name
     let found = label_find::key_refusal(kind, number);
     let found = strlib::check(found, 4, name.len() <= label_list::NAME);
     let found = strlib::check(found, 2, label_list::is_name(name));
-    let found = strlib::check(found, 11, label_list::find_record(list, kind, number, n) == 0);
+    let found = strlib::check(
+        found,
+        11,
+        label_list::find_record(list, kind, number, n) == 0,
+    );
     strlib::check(found, 6, label_list::RECORD <= room)
 }
 

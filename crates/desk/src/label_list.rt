@@ -7,11 +7,14 @@ ghost use Rattle.desk.specs.LabelInner.{Begins, Starts, Whole};
 
 // The greatest numbers of microphones, kind 1, and of loudspeakers, kind 2.
 const MICROPHONES: usize = 64;
+
 const LOUDSPEAKERS: usize = 128;
 
 // Bytes of a name, of what stands before it in a record, and of a record.
 pub const NAME: usize = 16;
+
 pub const HEAD: usize = 3;
+
 pub const RECORD: usize = 19;
 
 // The answer of the reader: how many records a good list has.
@@ -112,7 +115,11 @@ fn record_refusal(list: &[u8], k: usize) -> u8
     }
     let number = number_at(list, k);
     let found = strlib::check(0, 12, is_number(kind, number));
-    let found = strlib::check(found, 2, is_name(strlib::text(list, StrPtr::full(at + HEAD, NAME))));
+    let found = strlib::check(
+        found,
+        2,
+        is_name(strlib::text(list, StrPtr::full(at + HEAD, NAME))),
+    );
     strlib::check(found, 11, find_record(list, kind, number, k) == 0)
 }
 

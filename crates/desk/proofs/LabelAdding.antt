@@ -20,8 +20,8 @@ use Rattle.desk.proofs.LabelReading.{earlier-none, earlier-found, earli
 use Rattle.desk.proofs.LabelFinding.{good-begins, read-records, read-number}
 use Rattle.desk.specs.Label.{recordSize, nameWidth, limitOf, isNumber, isName, recordOf, earlier, records, listRefusal, readRule, labelCounted, keyChecks, keyRefusal, labelBytes, newChecks, newRefusal, addRefusal, addRule}
 use Rattle.desk.specs.LabelInner.{Begins, Good, Room, Writable}
-use Rattle.desk.specs.declared.label_list.LabelCount.{LabelCount}
-use Rattle.desk.specs.declared.label_list.LabelCount.the-variants.{Records, Refused as Uncounted}
+use Rattle.desk.specs.declared.label.read.LabelCount.{LabelCount}
+use Rattle.desk.specs.declared.label.read.LabelCount.the-variants.{Records, Refused as Uncounted}
 
 -- ---- the checks
 

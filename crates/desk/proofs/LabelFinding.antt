@@ -21,10 +21,10 @@ use Rattle.cutting.specs.declared.Cut.the-variants.{Counted, Trimmed}
 use Rattle.desk.proofs.LabelReading.{earlier-none, earlier-found, earlier-zero, good-whole}
 use Rattle.desk.specs.Label.{recordSize, nameWidth, nameAt, isRecord, recordOf, recordRefusal, earlier, faultIn, records, listRefusal, readRule, labelCounted, keyRefusal, nameOf, findRule, labelPlaced, namePart}
 use Rattle.desk.specs.LabelInner.{Begins, Good}
-use Rattle.desk.specs.declared.label_list.LabelCount.{LabelCount}
-use Rattle.desk.specs.declared.label_list.LabelCount.the-variants.{Records, Refused as Uncounted}
-use Rattle.desk.specs.declared.label_find.LabelPlace.{LabelPlace}
-use Rattle.desk.specs.declared.label_find.LabelPlace.the-variants.{Found, Missing, Refused as Unplaced}
+use Rattle.desk.specs.declared.label.read.LabelCount.{LabelCount}
+use Rattle.desk.specs.declared.label.read.LabelCount.the-variants.{Records, Refused as Uncounted}
+use Rattle.desk.specs.declared.label.find.LabelPlace.{LabelPlace}
+use Rattle.desk.specs.declared.label.find.LabelPlace.the-variants.{Found, Missing, Refused as Unplaced}
 
 -- ---- a good list
 
@@ -103,7 +103,10 @@ module _ (l : List ℕ) (kind number : ℕ) where
       let f : k ≡ earlier (listRefusal l) (keyRefusal kind number) = n .0 ∙ sym (earlier-found (listRefusal l) (keyRefusal kind number) (rw (n .0) at (n .1))) in
       outcome-no k _ f (nameOf l (recordOf l kind number (records l))) (n .1)
 
-  module _ (n j : ℕ) (g : Good l n) (e : j ≡ keyRefusal kind number) where
+  module _ (r : LabelCount) (n j : ℕ) (c : labelCounted r ≡ readRule l) (q : r ≡ Records n) (e : j ≡ keyRefusal kind number) where
+    g : Good l n
+    g = read-records l r c n q
+
     later : j ≡ earlier (listRefusal l) (keyRefusal kind number)
     later = e ∙ sym (earlier-zero (listRefusal l) (keyRefusal kind number) (g .good))
 
@@ -113,9 +116,9 @@ module _ (l : List ℕ) (kind number : ℕ) where
 
     pub find-name : (k : ℕ) (a : Outcome (Sought StrPtr)) → j ≡ 0 → k ≡ recordOf l kind number n → a ≡ gives (nameOf l k) → a ≡ findRule l kind number
     unfolding findRule
-    find-name k a z f q =
+    find-name k a z f x =
         let m : nameOf l k ≡ nameOf l (recordOf l kind number (records l)) = ap (nameOf l) (f ∙ ap (recordOf l kind number) (g .count)) in
-        q ∙ outcome-yes j _ later (nameOf l k) _ z m
+        x ∙ outcome-yes j _ later (nameOf l k) _ z m
 
 pub ruleset find-laws = (needs, good-begins, found-begins, read-records, find-list, find-key, find-name)
 

@@ -1,21 +1,21 @@
 -- Laws of the reader: the checks of a record in their order, and the first faulty record decides. Assumes nothing.
 use mathlib.Core.Path.{_≡_, refl, sym, ap, _∙_}
-use mathlib.Core.Bool.{Bool, true, false, cond, _&&_}
+use mathlib.Core.Bool.{Bool, true, false, cond, not, _&&_, false≢true}
 use mathlib.Core.List.{List, [], _∷_}
 use Prim.Native.Nat.{ℕ, zero, suc, _+_, _-_, _*_, _/_, _≤_, _<_}
 use native.Mathlib.Nat.{le-dest, add-zero, add-suc}
 use native.Mathlib.Numerals.{add-one}
 use native.Mathlib.Omega.{arith}
 use lib.Dec.{leb, eqb}
-use lib.ListN.{length, getD, drop, drop-of-length-le}
-use lib.Seq.{drop-cons}
+use lib.ListN.{length, getD, set, drop, replicate, drop-of-length-le, getD-replicate, length-set}
+use lib.Seq.{drop-cons, getD-set-same, getD-set-other}
 use borrow.Author.Needs.{needs}
-use borrow.Author.Tests.{leb-true, le-leb, lt-leb, eq-eqb, ne-eqb}
-use Rattle.strlib.proofs.Refusing.{inTurn, first-is, passed, outcome-no, outcome-yes}
+use borrow.Author.Tests.{leb-true, le-leb, lt-leb, eq-eqb, ne-eqb, eqb-true, eqb-false}
+use Rattle.strlib.proofs.Refusing.{and-both, inTurn, first-is, Passed, passed, first-before, first-behind, outcome-no, outcome-yes}
 use Rattle.strlib.specs.Pointer.{all}
 use Rattle.strlib.specs.Refusal.{refused, gives}
 use Rattle.desk.specs.Label.{recordSize, limitOf, isKind, isNumber, isName, kindAt, numberAt, nameAt, isRecord, recordOf, recordChecks, recordRefusal, earlier, faultIn, records, listRefusal, readRule, keyChecks, keyRefusal}
-use Rattle.desk.specs.LabelInner.{Begins, Starts, Whole}
+use Rattle.desk.specs.LabelInner.{Begins, Starts, Whole, Ranged, bodyChecks, bodyRefusal, markOf, Marked}
 
 -- ---- kinds, numbers, names
 
@@ -110,37 +110,33 @@ pub ruleset seek-laws = (needs, record-hit, record-miss, record-none, record-who
 -- ---- the checks of a record
 
 module _ (l : List ℕ) (k m : ℕ) (e : m ≡ limitOf (kindAt l k)) where
-  pub no-kind : m < 1 → 11 ≡ recordRefusal l k
-  unfolding recordRefusal isKind
+  pub no-kind : m < 1 → 11 ≡ bodyRefusal l k
+  unfolding bodyRefusal isKind
   no-kind h = rw (← e, lt-leb 1 m h)
 
-  module _ (h : 1 ≤ m) where
-    pub short-body : Starts l k → length l - recordSize * k < recordSize → 11 ≡ recordRefusal l k
-    unfolding recordRefusal isKind
-    short-body g f = rw (← e, le-leb 1 m h, lt-leb (recordSize * k + recordSize) (length l) (omega (arith, g .from)))
+  module _ (h : 1 ≤ m) (g : Starts l k) where
+    pub short-body : length l - recordSize * k < recordSize → 11 ≡ bodyRefusal l k
+    unfolding bodyRefusal isKind
+    short-body f = rw (← e, le-leb 1 m h, lt-leb (recordSize * k + recordSize) (length l) (omega (arith, g .from)))
 
-    pub whole-body : Starts l k → recordSize ≤ length l - recordSize * k → Whole l k
-    whole-body g f = record { to = omega (arith, g .from) }
+    pub whole-body : recordSize ≤ length l - recordSize * k → Whole l k
+    whole-body f = record { to = omega (arith, g .from) }
+
+pub ruleset body-laws = (needs, no-kind, short-body, whole-body)
 
 -- those that look at the body
-abbrev pub bodyChecks : List ℕ → ℕ → List (ℕ × Bool)
-bodyChecks l k =
-    (12, isNumber (kindAt l k) (numberAt l k)) ∷ (2, isName (nameAt l k)) ∷ (11, eqb (recordOf l (kindAt l k) (numberAt l k) k) 0) ∷ []
+abbrev pub insideChecks : List ℕ → ℕ → List (ℕ × Bool)
+insideChecks l k = (12, isNumber (kindAt l k) (numberAt l k)) ∷ (2, isName (nameAt l k)) ∷ []
 
-pub body-checked : (l : List ℕ) (k r : ℕ) → 1 ≤ limitOf (kindAt l k) → recordSize * k + recordSize ≤ length l → r ≡ inTurn 0 (bodyChecks l k) → r ≡ recordRefusal l k
-unfolding recordRefusal isKind
-body-checked l k r h g q =
-    rw (le-leb 1 (limitOf (kindAt l k)) h, le-leb (recordSize * k + recordSize) (length l) g) (first-is (bodyChecks l k) refl r q)
+pub inside-checked : (l : List ℕ) (k r : ℕ) → 1 ≤ limitOf (kindAt l k) → recordSize * k + recordSize ≤ length l → r ≡ inTurn 0 (insideChecks l k) → r ≡ bodyRefusal l k
+unfolding bodyRefusal isKind
+inside-checked l k r h g q =
+    rw (le-leb 1 (limitOf (kindAt l k)) h, le-leb (recordSize * k + recordSize) (length l) g) (first-is (insideChecks l k) refl r q)
 
 -- a record that is not refused lies in the list whole
 pub good-whole : (l : List ℕ) (k : ℕ) → recordRefusal l k ≡ 0 → recordSize * k + recordSize ≤ length l
 unfolding recordRefusal
 good-whole l k e = leb-true (recordSize * k + recordSize) (length l) (passed (recordChecks l k) refl e .1 .0)
-
-pub whole-begins : (l : List ℕ) (k : ℕ) → Whole l k → Begins l k
-whole-begins l k w = record { to = omega (arith, w .to) }
-
-pub ruleset body-laws = (needs, whole-begins, no-kind, short-body, whole-body)
 
 -- ---- the list
 
@@ -159,22 +155,15 @@ unfolding earlier
 earlier-zero k m h = rw h
 
 module _ (l : List ℕ) (n r : ℕ) (i : recordSize * n < length l) (e : faultIn l n ≡ 0) (q : r ≡ recordRefusal l n) where
-  pub good-more : r ≡ 0 → faultIn l (n + 1) ≡ 0
-  unfolding faultIn
-  good-more z = rw (add-one, earlier-zero (faultIn l n) (recordRefusal l n) e, ← q) z
-
-  pub good-on : r ≡ 0 → recordSize * (n + 1) ≤ length l
-  good-on z = omega (arith, good-whole l n (sym q ∙ z))
-
   -- a faulty record decides, whatever stands behind it
   stays : (r ≡ 0 → ⊥) → (j : ℕ) → faultIn l (suc n + j) ≡ r
   unfolding faultIn
   stays h zero = rw (add-zero, earlier-zero (faultIn l n) (recordRefusal l n) e, ← q)
   stays h (suc j) = rw (add-suc, stays h j) (earlier-found r (recordRefusal l (suc n + j)) h)
 
-  pub read-refused : (r ≡ 0 → ⊥) → refused r ≡ readRule l
+  pub faulty : (r ≡ 0 → ⊥) → refused r ≡ readRule l
   unfolding readRule listRefusal records
-  read-refused h =
+  faulty h =
       let d = le-dest {n = suc n} {m = records l} (omega arith) in
       let f : r ≡ listRefusal l = sym (ap (faultIn l) (sym (d .1)) ∙ stays h (d .0)) in
       outcome-no r (listRefusal l) f (records l) h
@@ -183,11 +172,118 @@ pub read-good : (l : List ℕ) (n : ℕ) → recordSize * n ≤ length l → len
 unfolding readRule listRefusal records
 read-good l n i j e = let q : n ≡ records l = omega arith in outcome-yes 0 (listRefusal l) (sym (rw (← q) e)) n (records l) refl q
 
-pub none-faulty : (l : List ℕ) → faultIn l 0 ≡ 0
-unfolding faultIn
-none-faulty l = refl
+-- ---- the marks
+
+in-range : (kind number : ℕ) → isNumber kind number ≡ true → (kind ≤ 2) × (number ≤ 128)
+unfolding isNumber limitOf
+in-range kind number e =
+    let b = and-both (leb 1 number) (leb number (limitOf kind)) e in
+    go (eqb kind 1) (eqb kind 2) refl refl (leb-true 1 number (b .0)) (leb-true number (limitOf kind) (b .1))
+  where
+    go : (s t : Bool) → eqb kind 1 ≡ s → eqb kind 2 ≡ t → 1 ≤ number → number ≤ cond s 64 (cond t 128 0) → (kind ≤ 2) × (number ≤ 128)
+    go true t f g l h = (omega (arith, eqb-true kind 1 f), omega arith)
+    go false true f g l h = (omega (arith, eqb-true kind 2 g), omega arith)
+    go false false f g l h = absurd (omega arith)
+
+pub ranged-whole : (l : List ℕ) (k : ℕ) → Ranged l k → Whole l k
+ranged-whole l k r = record { to = r .to }
+
+pub mark-is : (l : List ℕ) (k number : ℕ) → number ≡ numberAt l k → 129 * kindAt l k + number ≡ markOf (kindAt l k) (numberAt l k)
+unfolding markOf
+mark-is l k number e = rw e
+
+pub ruleset mark-laws = (needs, ranged-whole, mark-is)
+
+-- ---- the loop of the reader
 
 pub starts : (l : List ℕ) (n : ℕ) → recordSize * n < length l → Starts l n
 starts l n h = record { from = h }
 
-pub ruleset read-laws = (needs, none-faulty, starts, good-more, good-on, read-refused, read-good)
+pub none-faulty : (l : List ℕ) → faultIn l 0 ≡ 0
+unfolding faultIn
+none-faulty l = refl
+
+pub none-marked : (l : List ℕ) → Marked (replicate 387 false) l 0
+unfolding recordOf markOf
+none-marked l =
+    record {
+      size = refl;
+      marks = λ kind number e. getD-replicate 387 (markOf kind number) false false (omega (arith, in-range kind number e));
+    }
+
+module _ (l : List ℕ) (n r : ℕ) (i : recordSize * n < length l) (e : faultIn l n ≡ 0) (q : r ≡ bodyRefusal l n) where
+  pub body-faulty : (r ≡ 0 → ⊥) → refused r ≡ readRule l
+  unfolding bodyRefusal recordRefusal
+  body-faulty h = faulty l n r i e (first-before (bodyChecks l n) ((11, eqb (recordOf l (kindAt l n) (numberAt l n) n) 0) ∷ []) r q h) h
+
+  module _ (z : r ≡ 0) where
+    checked : Passed (bodyChecks l n)
+    unfolding bodyRefusal
+    checked = passed (bodyChecks l n) refl (sym q ∙ z)
+
+    pub body-ranged : Ranged l n
+    body-ranged =
+        let g = in-range (kindAt l n) (numberAt l n) (checked .1 .1 .0) in
+        record { to = leb-true (recordSize * n + recordSize) (length l) (checked .1 .0); kind = g .0; number = g .1 }
+
+    pub body-on : recordSize * (n + 1) ≤ length l
+    body-on = omega (arith, body-ranged .to)
+
+    pub mark-in : (m : ℕ) → m ≡ markOf (kindAt l n) (numberAt l n) → m < 387
+    unfolding markOf
+    mark-in m f = omega (arith, body-ranged .kind, body-ranged .number)
+
+    -- only the repetition is left to decide
+    left : recordRefusal l n ≡ cond (eqb (recordOf l (kindAt l n) (numberAt l n) n) 0) 0 11
+    unfolding bodyRefusal recordRefusal
+    left = first-behind (bodyChecks l n) ((11, eqb (recordOf l (kindAt l n) (numberAt l n) n) 0) ∷ []) refl (sym q ∙ z)
+
+    module _ (met : List Bool) (g : Marked met l n) (m : ℕ) (f : m ≡ markOf (kindAt l n) (numberAt l n)) where
+      is : not (eqb (recordOf l (kindAt l n) (numberAt l n) n) 0) ≡ getD met m false
+      is = rw f (sym (g .marks (kindAt l n) (numberAt l n) (checked .1 .1 .0)))
+
+      pub mark-faulty : getD met m false ≡ true → refused 11 ≡ readRule l
+      mark-faulty t = faulty l n 11 i e (sym (left ∙ go (eqb (recordOf l (kindAt l n) (numberAt l n) n) 0) (is ∙ t))) (λ (y : _≡_ {A = ℕ} 11 0). omega arith)
+        where
+          go : (b : Bool) → not b ≡ true → _≡_ {A = ℕ} (cond b 0 11) 11
+          go true h = absurd (false≢true h)
+          go false h = refl
+
+      module _ (t : getD met m false ≡ false) where
+        new : eqb (recordOf l (kindAt l n) (numberAt l n) n) 0 ≡ true
+        new = go (eqb (recordOf l (kindAt l n) (numberAt l n) n) 0) (is ∙ t)
+          where
+            go : (b : Bool) → not b ≡ false → b ≡ true
+            go true h = refl
+            go false h = absurd (false≢true (sym h))
+
+        pub mark-good : faultIn l (n + 1) ≡ 0
+        unfolding faultIn
+        mark-good = rw (add-one, earlier-zero (faultIn l n) (recordRefusal l n) e, left, new)
+
+        -- the mark of another kind and number is another
+        other : (kind number : ℕ) → isNumber kind number ≡ true → (markOf kind number ≡ markOf (kindAt l n) (numberAt l n) → ⊥)
+            → getD (set met (markOf (kindAt l n) (numberAt l n)) true) (markOf kind number) false ≡ not (eqb (recordOf l kind number n) 0)
+        other kind number h u = getD-set-other met (markOf (kindAt l n) (numberAt l n)) (markOf kind number) true false u ∙ g .marks kind number h
+
+        pub mark-more : Marked (set met m true) l (n + 1)
+        unfolding recordOf isRecord markOf
+        mark-more =
+            record {
+              size = simp length-set (g .size);
+              marks = λ kind number h. rw (add-one, f) (go kind number h (eqb (kindAt l n) kind) (eqb (numberAt l n) number) refl refl);
+            }
+          where
+            go : (kind number : ℕ) → isNumber kind number ≡ true → (a b : Bool) → eqb (kindAt l n) kind ≡ a → eqb (numberAt l n) number ≡ b
+                → getD (set met (markOf (kindAt l n) (numberAt l n)) true) (markOf kind number) false ≡ not (eqb (cond (a && b) (suc n) (recordOf l kind number n)) 0)
+            go kind number h true true x y =
+                let s : markOf kind number ≡ markOf (kindAt l n) (numberAt l n) = omega (arith, eqb-true (kindAt l n) kind x, eqb-true (numberAt l n) number y) in
+                rw (s, ne-eqb (suc n) 0 (λ (u : suc n ≡ 0). omega arith)) (getD-set-same met (markOf (kindAt l n) (numberAt l n)) true false (rw (g .size) (mark-in (markOf (kindAt l n) (numberAt l n)) refl)))
+            go kind number h true false x y =
+                other kind number h (λ (u : markOf kind number ≡ markOf (kindAt l n) (numberAt l n)).
+                eqb-false (numberAt l n) number y (omega (arith, in-range kind number h, body-ranged .number)))
+            go kind number h false b x y =
+                other kind number h (λ (u : markOf kind number ≡ markOf (kindAt l n) (numberAt l n)).
+                eqb-false (kindAt l n) kind x (omega (arith, in-range kind number h, body-ranged .number)))
+
+pub ruleset read-laws = (needs, none-faulty, none-marked, starts, body-faulty, body-ranged, body-on, mark-in, mark-faulty, mark-good, mark-more, read-good)

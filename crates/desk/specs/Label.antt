@@ -9,12 +9,12 @@ use Rattle.strlib.specs.Refusal.{Outcome, refused, gives, Sought, nowhere, at, 
 use Rattle.strlib.specs.Store.{put}
 use Rattle.strlib.specs.declared.StrPtr.{StrPtr}
 use Rattle.cutting.specs.Cutting.{trimmed}
-use Rattle.desk.specs.declared.label_list.LabelCount.{LabelCount}
-use Rattle.desk.specs.declared.label_list.LabelCount.the-variants.{Records, Refused as Uncounted}
-use Rattle.desk.specs.declared.label_find.LabelPlace.{LabelPlace}
-use Rattle.desk.specs.declared.label_find.LabelPlace.the-variants.{Found, Missing, Refused as Unplaced}
-use Rattle.desk.specs.declared.label_add.LabelAdded.{LabelAdded}
-use Rattle.desk.specs.declared.label_add.LabelAdded.the-variants.{Added, Refused as Unadded}
+use Rattle.desk.specs.declared.label.read.LabelCount.{LabelCount}
+use Rattle.desk.specs.declared.label.read.LabelCount.the-variants.{Records, Refused as Uncounted}
+use Rattle.desk.specs.declared.label.find.LabelPlace.{LabelPlace}
+use Rattle.desk.specs.declared.label.find.LabelPlace.the-variants.{Found, Missing, Refused as Unplaced}
+use Rattle.desk.specs.declared.label.add.LabelAdded.{LabelAdded}
+use Rattle.desk.specs.declared.label.add.LabelAdded.the-variants.{Added, Refused as Unadded}
 
 -- ---- a record: the kind, two bytes of number, and the name
 

@@ -1,9 +1,12 @@
 -- What the functions of the label list ask of one another. Assumes nothing.
 use Prim.Native.Nat.{ℕ, _+_, _*_, _≤_, _<_}
 use mathlib.Core.Path.{_≡_}
-use mathlib.Core.List.{List}
-use lib.ListN.{length}
-use Rattle.desk.specs.Label.{nameWidth, recordSize, records, listRefusal}
+use mathlib.Core.Bool.{Bool, true, false, not}
+use mathlib.Core.List.{List, [], _∷_}
+use lib.Dec.{leb, eqb}
+use lib.ListN.{length, getD}
+use Rattle.strlib.specs.Refusal.{first}
+use Rattle.desk.specs.Label.{nameWidth, recordSize, isKind, isNumber, isName, kindAt, numberAt, nameAt, recordOf, records, listRefusal}
 
 -- the first k records lie in the list
 pub record Begins (l : List ℕ) (k : ℕ) : Type 0 where
@@ -16,6 +19,29 @@ pub record Starts (l : List ℕ) (k : ℕ) : Type 0 where
 -- record k lies in the list whole
 pub record Whole (l : List ℕ) (k : ℕ) : Type 0 where
   pub to : recordSize * k + recordSize ≤ length l
+
+-- and has a kind and a number
+pub record Ranged (l : List ℕ) (k : ℕ) : Type 0 where
+  pub to : recordSize * k + recordSize ≤ length l
+  pub kind : kindAt l k ≤ 2
+  pub number : numberAt l k ≤ 128
+
+-- the checks of record k before it is known to be repeated, and the refusal that they find, 0 for none
+abbrev pub bodyChecks : List ℕ → ℕ → List (ℕ × Bool)
+bodyChecks l k =
+    (11, isKind (kindAt l k)) ∷ (11, leb (recordSize * k + recordSize) (length l)) ∷ (12, isNumber (kindAt l k) (numberAt l k)) ∷ (2, isName (nameAt l k)) ∷ []
+
+unfoldable pub bodyRefusal : List ℕ → ℕ → ℕ
+bodyRefusal l k = first (bodyChecks l k)
+
+-- where a kind and number are marked as met: 129 marks a kind
+unfoldable pub markOf : ℕ → ℕ → ℕ
+markOf kind number = 129 * kind + number
+
+-- of the kinds and numbers, those of the first k records are marked
+pub record Marked (met : List Bool) (l : List ℕ) (k : ℕ) : Type 0 where
+  pub size : length met ≡ 387
+  pub marks : (kind number : ℕ) → isNumber kind number ≡ true → getD met (markOf kind number) false ≡ not (eqb (recordOf l kind number k) 0)
 
 -- a good list of n records
 pub record Good (l : List ℕ) (n : ℕ) : Type 0 where

@@ -1,12 +1,10 @@
 // The desk: what stands above the string library and sees only its promises.
-mod label_add;
-mod label_find;
-mod label_list;
+mod label;
 
-pub use label_add::LabelAdded;
-pub use label_add::add_label;
-pub use label_find::LabelPlace;
-pub use label_find::find_label;
-pub use label_find::label_name;
-pub use label_list::LabelCount;
-pub use label_list::read_labels;
+pub use label::LabelAdded;
+pub use label::LabelCount;
+pub use label::LabelPlace;
+pub use label::add_label;
+pub use label::find_label;
+pub use label::label_name;
+pub use label::read_labels;

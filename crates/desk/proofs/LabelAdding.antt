@@ -10,32 +10,44 @@ use lib.ListN.{length, getD, set, take, replicate, length-take, length-append, l
 use lib.Seq.{paste, paste-zero, paste-suc, take-all}
 use borrow.Author.Needs.{needs}
 use borrow.Author.Tests.{leb-true, le-leb, lt-leb, eqb-true}
-use Rattle.strlib.proofs.Refusing.{and-both, inTurn, first-is, Passed, passed, ruled-no, ruled-yes}
+use Rattle.strlib.proofs.Refusing.{inTurn, first-is, first-before, first-behind, Passed, passed, ruled-no, ruled-yes}
 use Rattle.strlib.proofs.Storing.{put-length, put-put, set-put, put-more}
-use Rattle.strlib.specs.Refusal.{refused, gives, first}
+use Rattle.strlib.specs.Refusal.{refused, gives, first, also}
 use Rattle.strlib.specs.Store.{put}
 use Rattle.moving.proofs.Blanking.{blanked-in}
 use Rattle.moving.specs.Moving.{blanked}
-use Rattle.desk.proofs.LabelReading.{earlier-none, earlier-found, earlier-zero}
+use Rattle.desk.proofs.LabelReading.{in-range, earlier-none, earlier-found, earlier-zero}
 use Rattle.desk.proofs.LabelFinding.{good-begins, read-records, read-number}
-use Rattle.desk.specs.Label.{recordSize, nameWidth, limitOf, isNumber, isName, recordOf, earlier, records, listRefusal, readRule, labelCounted, keyChecks, keyRefusal, labelBytes, newChecks, newRefusal, addRefusal, addRule}
+use Rattle.desk.specs.Label.{headSize, recordSize, nameWidth, isKind, isNumber, isName, recordOf, earlier, records, listRefusal, readRule, labelCounted, keyChecks, keyRefusal, labelBytes, newChecks, newRefusal, addRefusal, addRule}
 use Rattle.desk.specs.LabelInner.{Begins, Good, Room, Writable}
 use Rattle.desk.specs.declared.label.read.LabelCount.{LabelCount}
 use Rattle.desk.specs.declared.label.read.LabelCount.the-variants.{Records, Refused as Uncounted}
 
 -- ---- the checks
 
--- those behind the kind's and the number's
-abbrev pub addedChecks : List ℕ → ℕ → ℕ → ℕ → List ℕ → List (ℕ × Bool)
-addedChecks l room kind number name =
-    (4, leb (length name) nameWidth) ∷ (2, isName name) ∷ (11, eqb (recordOf l kind number (records l)) 0) ∷ (6, leb recordSize room) ∷ []
+-- those that look at no character of the name, and those behind them
+abbrev pub frontChecks : ℕ → ℕ → List ℕ → List (ℕ × Bool)
+frontChecks kind number name = (11, isKind kind) ∷ (12, isNumber kind number) ∷ (4, leb (length name) nameWidth) ∷ []
 
-pub new-checked : (l : List ℕ) (room kind number : ℕ) (name : List ℕ) (k : ℕ) → k ≡ inTurn (keyRefusal kind number) (addedChecks l room kind number name)
-    → k ≡ newRefusal l room kind number name
-unfolding newRefusal keyRefusal
-new-checked l room kind number name k e =
-    let j : first (keyChecks kind number) ≡ inTurn 0 (keyChecks kind number) = sym (first-is (keyChecks kind number) refl _ refl) in
-    first-is (newChecks l room kind number name) refl k (e ∙ ap (λ (i : ℕ). inTurn i (addedChecks l room kind number name)) j)
+abbrev pub behindChecks : List ℕ → ℕ → ℕ → ℕ → List ℕ → List (ℕ × Bool)
+behindChecks l room kind number name = (2, isName name) ∷ (11, eqb (recordOf l kind number (records l)) 0) ∷ (6, leb recordSize room) ∷ []
+
+module _ (l : List ℕ) (room kind number : ℕ) (name : List ℕ) (j k : ℕ) (e : j ≡ keyRefusal kind number) (f : k ≡ also j 4 (leb (length name) nameWidth)) where
+  front : k ≡ first (frontChecks kind number name)
+  unfolding keyRefusal
+  front =
+      let t : j ≡ inTurn 0 (keyChecks kind number) = e ∙ sym (first-is (keyChecks kind number) refl _ refl) in
+      first-is (frontChecks kind number name) refl k (rw (← t) f)
+
+  pub new-front : (k ≡ 0 → ⊥) → k ≡ newRefusal l room kind number name
+  unfolding newRefusal
+  new-front h = first-before (frontChecks kind number name) (behindChecks l room kind number name) k front h
+
+  pub new-behind : (r : ℕ) → k ≡ 0 → r ≡ inTurn 0 (behindChecks l room kind number name) → r ≡ newRefusal l room kind number name
+  unfolding newRefusal
+  new-behind r z q =
+      first-is (behindChecks l room kind number name) refl r q
+      ∙ sym (first-behind (frontChecks kind number name) (behindChecks l room kind number name) refl (sym front ∙ z))
 
 pub front-length : (b : List ℕ) (n : ℕ) → n ≤ length b → n ≡ length (take n b)
 front-length b n h = rw length-take (omega arith)
@@ -58,7 +70,7 @@ module _ (b : List ℕ) (n kind number : ℕ) (name : List ℕ) where
         let g = read-records (take n b) r e m q in
         rw (le-leb n (length b) h) (f ∙ sym (earlier-zero (listRefusal (take n b)) (newRefusal (take n b) (length b - n) kind number name) (g .good)))
 
-pub ruleset refusal-laws = (needs, front-length, good-begins, read-records, add-long, add-list, add-new)
+pub ruleset refusal-laws = (needs, new-front, front-length, good-begins, read-records, add-long, add-list, add-new)
 
 -- what holds where nothing is refused
 pub record Passing (b : List ℕ) (n kind number : ℕ) (name : List ℕ) : Type 0 where
@@ -120,37 +132,28 @@ module _ (b : List ℕ) (at kind number : ℕ) (name : List ℕ) (w : Writable b
   pub third-in : at + 2 < length (set (set b at kind) (at + 1) (number / 256))
   third-in = simp length-set (omega (arith, w .room))
 
-  pub name-room : Room headed (at + 3) (length name)
+  pub name-room : Room headed (at + headSize) (length name)
   name-room = record { to = omega (arith, w .room, w .short, head-length) }
 
-  name-length : (x : List ℕ) → x ≡ put headed (at + 3) name → length x ≡ length b
-  name-length x e = rw e (put-length headed (at + 3) name (name-room .to)) ∙ head-length
+  name-length : (x : List ℕ) → x ≡ put headed (at + headSize) name → length x ≡ length b
+  name-length x e = rw e (put-length headed (at + headSize) name (name-room .to)) ∙ head-length
 
-  pub record-is : (x y : List ℕ) → x ≡ put headed (at + 3) name → y ≡ blanked x (at + 3 + length name) (16 - length name)
+  pub record-is : (x y : List ℕ) → x ≡ put headed (at + headSize) name → y ≡ blanked x (at + headSize + length name) (nameWidth - length name)
       → y ≡ put b at (labelBytes kind number name)
   unfolding labelBytes
   record-is x y e f =
       let l : length x ≡ length b = name-length x e in
-      let k : at + 3 + length name ≡ at + length (head ++ name) = rw length-append (omega arith) in
-      f ∙ blanked-in x (at + 3 + length name) (16 - length name) (omega (arith, w .room, w .short))
-      ∙ rw (e, head-put, put-put b at head (omega (arith, w .room)) name, k) (put-put b at (head ++ name) (omega (arith, w .room)) (replicate (16 - length name) 32))
+      let k : at + headSize + length name ≡ at + length (head ++ name) = rw length-append (omega arith) in
+      f ∙ blanked-in x (at + headSize + length name) (nameWidth - length name) (omega (arith, w .room, w .short))
+      ∙ rw (e, head-put, put-put b at head (omega (arith, w .room)) name, k) (put-put b at (head ++ name) (omega (arith, w .room)) (replicate (nameWidth - length name) 32))
 
-  pub record-length : (x y : List ℕ) → x ≡ put headed (at + 3) name → y ≡ blanked x (at + 3 + length name) (16 - length name) → length y ≡ length b
+  pub record-length : (x y : List ℕ) → x ≡ put headed (at + headSize) name → y ≡ blanked x (at + headSize + length name) (nameWidth - length name) → length y ≡ length b
   record-length x y e f =
       rw (record-is x y e f) (put-length b at (labelBytes kind number name) (omega (arith, w .room, bytes-length kind number name (w .short))))
 
 pub ruleset piece-laws = (needs, second-in, third-in, name-room, record-is, record-length)
 
 -- ---- the call
-
-limit-small : (kind : ℕ) → limitOf kind ≤ 128
-unfolding limitOf
-limit-small kind = go (eqb kind 1) (eqb kind 2)
-  where
-    go : (s t : Bool) → cond s 64 (cond t 128 0) ≤ 128
-    go true t = omega arith
-    go false true = omega arith
-    go false false = omega arith
 
 module _ (b : List ℕ) (n kind number : ℕ) (name : List ℕ) (k : ℕ) (e : k ≡ addRefusal b n kind number name) where
   pub add-refused : (k ≡ 0 → ⊥) → (refused k, b) ≡ addRule b n kind number name
@@ -159,13 +162,11 @@ module _ (b : List ℕ) (n kind number : ℕ) (name : List ℕ) (k : ℕ) (e : k
 
   module _ (z : k ≡ 0) where
     pub add-writable : Writable b n number name
-    unfolding isNumber
     add-writable =
         let p = passing b n kind number name (sym e ∙ z) in
-        let q = and-both (leb 1 number) (leb number (limitOf kind)) (p .new .1 .0) in
-        let s = leb-true number (limitOf kind) (q .1) in
+        let s = in-range kind number (p .new .1 .0) in
         let r = leb-true recordSize (length b - n) (p .new .1 .1 .1 .1 .1 .0) in
-        record { room = omega (arith, p .inside); small = omega (arith, limit-small kind); short = leb-true (length name) nameWidth (p .new .1 .1 .0) }
+        record { room = omega (arith, p .inside); small = omega arith; short = leb-true (length name) nameWidth (p .new .1 .1 .0) }
 
     pub add-room : n + recordSize ≤ length b
     add-room = add-writable .room

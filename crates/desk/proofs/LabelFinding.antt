@@ -19,7 +19,7 @@ use Rattle.cutting.specs.Cutting.{trimmed, countedIn, inBounds, cutOf}
 use Rattle.cutting.specs.Part.{IsPart, whole, sliceCut}
 use Rattle.cutting.specs.declared.Cut.the-variants.{Counted, Trimmed}
 use Rattle.desk.proofs.LabelReading.{earlier-none, earlier-found, earlier-zero, good-whole}
-use Rattle.desk.specs.Label.{recordSize, nameWidth, nameAt, isRecord, recordOf, recordRefusal, earlier, faultIn, records, listRefusal, readRule, labelCounted, keyRefusal, nameOf, findRule, labelPlaced, namePart}
+use Rattle.desk.specs.Label.{headSize, recordSize, nameWidth, nameAt, isRecord, recordOf, recordRefusal, earlier, faultIn, records, listRefusal, readRule, labelCounted, keyRefusal, nameOf, findRule, labelPlaced, namePart}
 use Rattle.desk.specs.LabelInner.{Begins, Good}
 use Rattle.desk.specs.declared.label.read.LabelCount.{LabelCount}
 use Rattle.desk.specs.declared.label.read.LabelCount.the-variants.{Records, Refused as Uncounted}
@@ -74,21 +74,21 @@ module _ (l : List ℕ) (k : ℕ) where
   unfolding nameOf
   name-missing z = rw z
 
-  pub name-placed : (p : StrPtr) (t q : RefT (List ℕ)) → (k ≡ 0 → ⊥) → p ≡ pointer (recordSize * (k - 1) + 3) 16 16 → now t ≡ textOf l p
+  pub name-placed : (p : StrPtr) (t q : RefT (List ℕ)) → (k ≡ 0 → ⊥) → p ≡ pointer (recordSize * (k - 1) + headSize) nameWidth nameWidth → now t ≡ textOf l p
       → IsPart q t (sliceCut (now t) Trimmed)
-      → gives (at (pointer (recordSize * (k - 1) + 3) (length (now q)) (length (now q)))) ≡ gives (nameOf l k)
+      → gives (at (pointer (recordSize * (k - 1) + headSize) (length (now q)) (length (now q)))) ≡ gives (nameOf l k)
   unfolding nameOf nameAt
   name-placed p t q h e f i = go k h e
     where
       left : length (now q) ≡ trimmed (now t)
       left = ap length (i .bytes) ∙ trim-length (now t)
 
-      go : (k : ℕ) → (k ≡ 0 → ⊥) → p ≡ pointer (recordSize * (k - 1) + 3) 16 16
-          → gives (at (pointer (recordSize * (k - 1) + 3) (length (now q)) (length (now q)))) ≡ gives (nameOf l k)
+      go : (k : ℕ) → (k ≡ 0 → ⊥) → p ≡ pointer (recordSize * (k - 1) + headSize) nameWidth nameWidth
+          → gives (at (pointer (recordSize * (k - 1) + headSize) (length (now q)) (length (now q)))) ≡ gives (nameOf l k)
       go zero h e = absurd (h refl)
       go (suc k) h e =
           let z : suc k - 1 ≡ k = omega arith in
-          let y : length (now q) ≡ trimmed (textOf l (pointer (recordSize * k + 3) 16 16)) = left ∙ ap trimmed (f ∙ ap (textOf l) (rw z at e)) in
+          let y : length (now q) ≡ trimmed (textOf l (pointer (recordSize * k + headSize) nameWidth nameWidth)) = left ∙ ap trimmed (f ∙ ap (textOf l) (rw z at e)) in
           rw (z, y)
 
 pub ruleset place-laws = (needs, name-missing, name-placed)
@@ -129,8 +129,8 @@ within : (l : List ℕ) (k : ℕ) (p : StrPtr) → recordSize * k ≤ length l �
 unfolding nameOf nameAt pointer textOf
 within l zero p h e = let z : _≡_ {A = ℕ} 0 1 = cc in absurd (omega arith)
 within l (suc k) p h e =
-    let q : pointer (recordSize * k + 3) (trimmed (nameAt l k)) (trimmed (nameAt l k)) ≡ p = cc in
-    rw (← q) (omega (arith, trimmed-le (nameAt l k), length-take nameWidth (drop (recordSize * k + 3) l)))
+    let q : pointer (recordSize * k + headSize) (trimmed (nameAt l k)) (trimmed (nameAt l k)) ≡ p = cc in
+    rw (← q) (omega (arith, trimmed-le (nameAt l k), length-take nameWidth (drop (recordSize * k + headSize) l)))
 
 pub found-within : (l : List ℕ) (kind number : ℕ) (p : StrPtr) → findRule l kind number ≡ gives (at p) → p .start + p .length ≤ length l
 unfolding findRule

@@ -174,7 +174,7 @@ read-good l n i j e = let q : n ≡ records l = omega arith in outcome-yes 0 (li
 
 -- ---- the marks
 
-in-range : (kind number : ℕ) → isNumber kind number ≡ true → (kind ≤ 2) × (number ≤ 128)
+pub in-range : (kind number : ℕ) → isNumber kind number ≡ true → (kind ≤ 2) × (number ≤ 128)
 unfolding isNumber limitOf
 in-range kind number e =
     let b = and-both (leb 1 number) (leb number (limitOf kind)) e in

@@ -19,7 +19,7 @@ use Rattle.cutting.specs.Cutting.{trimmed}
 use Rattle.desk.proofs.LabelReading.{earlier-zero}
 use Rattle.desk.proofs.LabelFinding.{good-room, record-le}
 use Rattle.desk.proofs.LabelAdding.{Passing, passing, bytes-length}
-use Rattle.desk.specs.Label.{recordSize, nameWidth, isKind, isNumber, isName, kindAt, numberAt, nameAt, isRecord, recordOf, recordRefusal, earlier, faultIn, records, listRefusal, readRule, keyRefusal, nameOf, findRule, labelBytes, addRefusal, addRule}
+use Rattle.desk.specs.Label.{headSize, recordSize, nameWidth, isKind, isNumber, isName, kindAt, numberAt, nameAt, isRecord, recordOf, recordRefusal, earlier, faultIn, records, listRefusal, readRule, keyRefusal, nameOf, findRule, labelBytes, addRefusal, addRule}
 use Rattle.desk.specs.LabelWritten.{Written}
 
 -- ---- behind a list of n whole records, what they say does not change
@@ -39,9 +39,9 @@ module _ (l r : List ℕ) (n : ℕ) (e : length l ≡ recordSize * n) where
     name-at : nameAt (l ++ r) k ≡ nameAt l k
     unfolding nameAt textOf pointer
     name-at =
-        let i : recordSize * k + 3 ≤ length l = omega arith in
-        let j : nameWidth ≤ length (drop (recordSize * k + 3) l) = rw length-drop (omega arith) in
-        rw (drop-append-le (recordSize * k + 3) l r i) (take-append-le nameWidth (drop (recordSize * k + 3) l) r j)
+        let i : recordSize * k + headSize ≤ length l = omega arith in
+        let j : nameWidth ≤ length (drop (recordSize * k + headSize) l) = rw length-drop (omega arith) in
+        rw (drop-append-le (recordSize * k + headSize) l r i) (take-append-le nameWidth (drop (recordSize * k + headSize) l) r j)
 
     same-at : (kind number : ℕ) → isRecord (l ++ r) k kind number ≡ isRecord l k kind number
     unfolding isRecord
@@ -117,8 +117,8 @@ module _ (l : List ℕ) (n : ℕ) (e : length l ≡ recordSize * n) (kind number
   unfolding numberAt
   new-number = rw (rec-at 1, rec-at 2, rec-is) (div-add-mod' number 256)
 
-  new-rest : drop (recordSize * n + 3) (l ++ rec) ≡ padded
-  new-rest = rw (← e, drop-append-add l rec 3, rec-is)
+  new-rest : drop (recordSize * n + headSize) (l ++ rec) ≡ padded
+  new-rest = rw (← e, drop-append-add l rec headSize, rec-is)
 
   new-name : nameAt (l ++ rec) n ≡ padded
   unfolding nameAt textOf pointer
@@ -128,7 +128,7 @@ module _ (l : List ℕ) (n : ℕ) (e : length l ≡ recordSize * n) (kind number
   unfolding records
   new-records = rw length-append (omega (arith, rec-length))
 
-  new-text : textOf (l ++ rec) (pointer (recordSize * n + 3) (trimmed name) (trimmed name)) ≡ take (trimmed name) name
+  new-text : textOf (l ++ rec) (pointer (recordSize * n + headSize) (trimmed name) (trimmed name)) ≡ take (trimmed name) name
   unfolding textOf pointer
   new-text = rw new-rest (take-append-le (trimmed name) name (replicate (nameWidth - length name) 32) (trimmed-le name))
 
@@ -175,7 +175,7 @@ module _ (l : List ℕ) (n : ℕ) (e : length l ≡ recordSize * n) (kind number
     unfolding readRule outcome
     read-is = rw (list-good, new-records)
 
-    pub find-is : findRule (l ++ rec) kind number ≡ gives (at (pointer (recordSize * n + 3) (trimmed name) (trimmed name)))
+    pub find-is : findRule (l ++ rec) kind number ≡ gives (at (pointer (recordSize * n + headSize) (trimmed name) (trimmed name)))
     unfolding findRule earlier keyRefusal recordOf nameOf outcome
     find-is = rw (list-good, kinds, numbers, new-records, new-same, new-name, trim-pad (nameWidth - length name) name)
 
@@ -215,10 +215,10 @@ module _ (b : List ℕ) (n kind number : ℕ) (name : List ℕ) (p : Passing b n
         found =
             rw list-is
             (find-is l m e kind number name fits (p .good) refl (x .0) (x .1 .0) (x .1 .1 .1 .0) (x .1 .1 .1 .1 .0)
-            ∙ ap (λ (j : ℕ). gives (at (pointer (j + 3) (trimmed name) (trimmed name)))) (sym whole));
+            ∙ ap (λ (j : ℕ). gives (at (pointer (j + headSize) (trimmed name) (trimmed name)))) (sym whole));
         text =
             rw list-is
-            (ap (λ (j : ℕ). textOf (l ++ labelBytes kind number name) (pointer (j + 3) (trimmed name) (trimmed name))) whole
+            (ap (λ (j : ℕ). textOf (l ++ labelBytes kind number name) (pointer (j + headSize) (trimmed name) (trimmed name))) whole
             ∙ new-text l m e kind number name fits);
         others =
             λ k j h. rw list-is (other-is l m e kind number name fits (p .good) refl (x .0) (x .1 .0) (x .1 .1 .1 .0) (x .1 .1 .1 .1 .0) k j h);

@@ -18,12 +18,15 @@ use Rattle.desk.specs.declared.label.add.LabelAdded.the-variants.{Added,
 
 -- ---- a record: the kind, two bytes of number, and the name
 
--- characters of a name, and bytes of a record
+-- bytes before a name, characters of a name, and bytes of a record
+abbrev pub headSize : ℕ
+headSize = 3
+
 abbrev pub nameWidth : ℕ
 nameWidth = 16
 
 abbrev pub recordSize : ℕ
-recordSize = 19
+recordSize = headSize + nameWidth
 
 -- the kinds and their greatest numbers: 1, microphones, to 64; 2, loudspeakers, to 128; 0 for what is no kind
 unfoldable pub limitOf : ℕ → ℕ
@@ -47,7 +50,7 @@ unfoldable pub numberAt : List ℕ → ℕ → ℕ
 numberAt l k = getD l (recordSize * k + 1) 0 * 256 + getD l (recordSize * k + 2) 0
 
 unfoldable pub nameAt : List ℕ → ℕ → List ℕ
-nameAt l k = textOf l (pointer (recordSize * k + 3) nameWidth nameWidth)
+nameAt l k = textOf l (pointer (recordSize * k + headSize) nameWidth nameWidth)
 
 unfoldable pub isRecord : List ℕ → ℕ → ℕ → ℕ → Bool
 isRecord l k kind number = eqb (kindAt l k) kind && eqb (numberAt l k) number
@@ -106,7 +109,7 @@ keyRefusal kind number = first (keyChecks kind number)
 -- where the trimmed name of record k lies, k being counted from 1: the place, and the length, as a string that fills its room
 unfoldable pub nameOf : List ℕ → ℕ → Sought StrPtr
 nameOf l zero = nowhere
-nameOf l (suc k) = at (pointer (recordSize * k + 3) (trimmed (nameAt l k)) (trimmed (nameAt l k)))
+nameOf l (suc k) = at (pointer (recordSize * k + headSize) (trimmed (nameAt l k)) (trimmed (nameAt l k)))
 
 unfoldable pub findRule : List ℕ → ℕ → ℕ → Outcome (Sought StrPtr)
 findRule l kind number = outcome (earlier (listRefusal l) (keyRefusal kind number)) (nameOf l (recordOf l kind number (records l)))

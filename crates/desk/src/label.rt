@@ -20,12 +20,12 @@ const MICROPHONES: usize = 64;
 
 const LOUDSPEAKERS: usize = 128;
 
-// Bytes of a name, of what stands before it in a record, and of a record.
-const NAME: usize = 16;
-
+// Bytes before a name, of a name, and of a record.
 const HEAD: usize = 3;
 
-const RECORD: usize = 19;
+const NAME: usize = 16;
+
+const RECORD: usize = HEAD + NAME;
 
 // The greatest number of a kind, 0 for what is no kind.
 fn limit_of(kind: u8) -> usize

@@ -20,7 +20,10 @@ fn new_refusal(list: &[u8], n: usize, room: usize, kind: u8, number: usize, name
 {
     let found = super::key_refusal(kind, number);
     let found = strlib::check(found, 4, name.len() <= super::NAME);
-    let found = strlib::check(found, 2, super::is_name(name));
+    if found != 0 {
+        return found;
+    }
+    let found = strlib::check(0, 2, super::is_name(name));
     let found = strlib::check(found, 11, super::find_record(list, kind, number, n) == 0);
     strlib::check(found, 6, super::RECORD <= room)
 }

@@ -4,10 +4,10 @@ ghost use mathlib.Core.Path.{_≡_};
 ghost use Rattle.desk.specs.Label.{kindAt, numberAt, labelCounted, readRule};
 ghost use Rattle.desk.specs.LabelInner.{Starts, Ranged, bodyRefusal, markOf};
 
-// Marks of one kind, and marks in all.
-const ROW: usize = 129;
+// Marks of one kind, for the numbers from 0 on, and marks in all.
+const ROW: usize = super::LOUDSPEAKERS + 1;
 
-const MARKS: usize = 387;
+const MARKS: usize = 3 * ROW;
 
 // The answer of the reader: how many records a good list has.
 pub enum LabelCount {

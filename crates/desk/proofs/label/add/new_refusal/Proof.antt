@@ -1,4 +1,4 @@
-use Rattle.desk.proofs.LabelAdding.{refusal-laws, new-checked}
+use Rattle.desk.proofs.LabelAdding.{refusal-laws, new-behind}
 use Rattle.desk.proofs.label.add.new_refusal.Statement.{statement}
 use Rattle.desk.proofs.label.add.new_refusal.Tie as tie
 
@@ -8,9 +8,10 @@ new-refusal-spec =
     (tie.spec
     (λ c κs. search refusal-laws)
     (λ c κs. search refusal-laws)
+    (λ c. search refusal-laws)
     (λ c κs. search refusal-laws)
     (λ c κs. search refusal-laws)
     (λ c κs. search refusal-laws)
     (λ c κs. search refusal-laws)
     (λ c κs. search refusal-laws)
-    (λ c. new-checked _ _ _ _ _ _ (cc)))
+    (λ c. new-behind _ _ _ _ _ _ _ (c .before .before .before .before .before .before .before .key-refusal .ensures) (c .before .before .before .before .before .before .check .ensures) _ (c .before .before .before .before .before .if1 .left) (cc)))

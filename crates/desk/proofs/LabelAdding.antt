@@ -1,25 +1,26 @@
 -- Laws of the writer: the checks in their order, and a record put behind the list in three pieces. Assumes nothing.
-use mathlib.Core.Path.{_≡_, refl, sym, ap, _∙_}
+use mathlib.Core.Path.{_≡_, refl, sym, _∙_}
 use mathlib.Core.Bool.{Bool, true, false, cond}
 use mathlib.Core.List.{List, [], _∷_, _++_}
-use Prim.Native.Nat.{ℕ, zero, suc, _+_, _-_, _*_, _/_, _%_, _≤_, _<_}
+use Prim.Native.Nat.{ℕ, _+_, _-_, _/_, _%_, _≤_, _<_}
 use native.Mathlib.Numerals.{add-one}
 use native.Mathlib.Omega.{arith}
 use lib.Dec.{leb, eqb}
 use lib.ListN.{length, getD, set, take, replicate, length-take, length-append, length-set, length-replicate}
 use lib.Seq.{paste, paste-zero, paste-suc, take-all}
 use borrow.Author.Needs.{needs}
-use borrow.Author.Tests.{leb-true, le-leb, lt-leb, eqb-true}
+use borrow.Author.Tests.{leb-true, le-leb, lt-leb}
 use Rattle.strlib.proofs.Refusing.{inTurn, first-is, first-before, first-behind, Passed, passed, ruled-no, ruled-yes}
 use Rattle.strlib.proofs.Storing.{put-length, put-put, set-put, put-more}
 use Rattle.strlib.specs.Refusal.{refused, gives, first, also}
 use Rattle.strlib.specs.Store.{put}
 use Rattle.moving.proofs.Blanking.{blanked-in}
 use Rattle.moving.specs.Moving.{blanked}
-use Rattle.desk.proofs.LabelReading.{in-range, earlier-none, earlier-found, earlier-zero}
+use Rattle.desk.proofs.LabelRecord.{in-range}
+use Rattle.desk.proofs.LabelReading.{earlier-none, earlier-found, earlier-zero}
 use Rattle.desk.proofs.LabelFinding.{good-begins, read-records, read-number}
 use Rattle.desk.specs.Label.{headSize, recordSize, nameWidth, isKind, isNumber, isName, recordOf, earlier, records, listRefusal, readRule, labelCounted, keyChecks, keyRefusal, labelBytes, newChecks, newRefusal, addRefusal, addRule}
-use Rattle.desk.specs.LabelInner.{Begins, Good, Room, Writable}
+use Rattle.desk.specs.LabelInner.{Room, Writable}
 use Rattle.desk.specs.declared.label.read.LabelCount.{LabelCount}
 use Rattle.desk.specs.declared.label.read.LabelCount.the-variants.{Records, Refused as Uncounted}
 

@@ -2,14 +2,14 @@
 use mathlib.Core.Path.{_≡_, refl, sym, ap, _∙_}
 use mathlib.Core.Bool.{Bool, true, false, cond}
 use mathlib.Core.List.{List}
-use Prim.Native.Nat.{ℕ, zero, suc, _+_, _-_, _*_, _≤_, _<_}
+use Prim.Native.Nat.{ℕ, zero, suc, _+_, _-_, _*_, _≤_}
 use native.Mathlib.Nat.{zero-add}
 use native.Mathlib.Omega.{arith}
-use lib.ListN.{length, take, drop, length-take, length-drop}
+use lib.ListN.{length, drop, length-take}
 use denote.Ref.{RefT, now}
 use borrow.Author.Needs.{needs}
 use borrow.Author.Tests.{le-leb}
-use Rattle.strlib.proofs.Refusing.{outcome-no, outcome-yes, outcome-gave, outcome-refused}
+use Rattle.strlib.proofs.Refusing.{outcome-no, outcome-yes, outcome-gave}
 use Rattle.strlib.specs.Pointer.{pointer, partOf, textOf}
 use Rattle.strlib.specs.Refusal.{Outcome, refused, gives, Sought, nowhere, at, outcome}
 use Rattle.strlib.specs.declared.StrPtr.{StrPtr}
@@ -18,7 +18,8 @@ use Rattle.cutting.proofs.Slicing.{trim-length}
 use Rattle.cutting.specs.Cutting.{trimmed, countedIn, inBounds, cutOf}
 use Rattle.cutting.specs.Part.{IsPart, whole, sliceCut}
 use Rattle.cutting.specs.declared.Cut.the-variants.{Counted, Trimmed}
-use Rattle.desk.proofs.LabelReading.{earlier-none, earlier-found, earlier-zero, good-whole}
+use Rattle.desk.proofs.LabelRecord.{good-whole}
+use Rattle.desk.proofs.LabelReading.{earlier-none, earlier-found, earlier-zero}
 use Rattle.desk.specs.Label.{headSize, recordSize, nameWidth, nameAt, isRecord, recordOf, recordRefusal, earlier, faultIn, records, listRefusal, readRule, labelCounted, keyRefusal, nameOf, findRule, labelPlaced, namePart}
 use Rattle.desk.specs.LabelInner.{Begins, Good}
 use Rattle.desk.specs.declared.label.read.LabelCount.{LabelCount}

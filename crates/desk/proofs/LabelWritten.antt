@@ -1,7 +1,7 @@
 -- A list to which the writer added a record reads as good, with the record and all that it had: behind a list of whole records a further
 -- record leaves what each of them says as it is, and says itself what was written. Assumes nothing.
 use mathlib.Core.Path.{_≡_, refl, sym, ap, _∙_}
-use mathlib.Core.Bool.{Bool, true, false, cond, _&&_, false≢true}
+use mathlib.Core.Bool.{Bool, true, false, _&&_}
 use mathlib.Core.List.{List, [], _∷_, _++_, append-nil}
 use Prim.Native.Nat.{ℕ, zero, suc, _+_, _-_, _*_, _/_, _%_, _≤_, _<_}
 use native.Mathlib.Nat.{div-add-mod', add-zero}
@@ -9,14 +9,13 @@ use native.Mathlib.Omega.{arith}
 use lib.Dec.{leb, eqb}
 use lib.ListN.{length, getD, take, drop, replicate, length-take, length-drop, length-append, length-replicate, List·getD-append}
 use lib.Seq.{append-snoc, take-all, take-at, take-append-le, drop-append-le, drop-append-add, getD-append-add}
-use borrow.Author.Tests.{leb-true, le-leb, eqb-true, eq-eqb, ne-eqb}
-use Rattle.strlib.proofs.Refusing.{and-both, Passed, outcome-yes, ruled-gave}
+use borrow.Author.Tests.{leb-true, le-leb, eqb-true, eq-eqb}
+use Rattle.strlib.proofs.Refusing.{and-both, ruled-gave}
 use Rattle.strlib.specs.Pointer.{pointer, textOf, all}
-use Rattle.strlib.specs.Refusal.{Outcome, refused, gives, Sought, nowhere, at, outcome, ruled}
+use Rattle.strlib.specs.Refusal.{gives, at, outcome}
 use Rattle.strlib.specs.Store.{put}
 use Rattle.cutting.proofs.Bounding.{trimmed-le, trimmed-blank}
 use Rattle.cutting.specs.Cutting.{trimmed}
-use Rattle.desk.proofs.LabelReading.{earlier-zero}
 use Rattle.desk.proofs.LabelFinding.{good-room, record-le}
 use Rattle.desk.proofs.LabelAdding.{Passing, passing, bytes-length}
 use Rattle.desk.specs.Label.{headSize, recordSize, nameWidth, isKind, isNumber, isName, kindAt, numberAt, nameAt, isRecord, recordOf, recordRefusal, earlier, faultIn, records, listRefusal, readRule, keyRefusal, nameOf, findRule, labelBytes, addRefusal, addRule}

@@ -1,3 +1,4 @@
+pub mod LabelRecord
 pub mod LabelReading
 pub mod LabelFinding
 pub mod LabelAdding

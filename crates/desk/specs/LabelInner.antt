@@ -1,12 +1,12 @@
 -- What the functions of the label list ask of one another. Assumes nothing.
 use Prim.Native.Nat.{ℕ, _+_, _*_, _≤_, _<_}
 use mathlib.Core.Path.{_≡_}
-use mathlib.Core.Bool.{Bool, true, false, not}
+use mathlib.Core.Bool.{Bool}
 use mathlib.Core.List.{List, [], _∷_}
-use lib.Dec.{leb, eqb}
-use lib.ListN.{length, getD}
+use lib.Dec.{leb}
+use lib.ListN.{length}
 use Rattle.strlib.specs.Refusal.{first}
-use Rattle.desk.specs.Label.{nameWidth, recordSize, isKind, isNumber, isName, kindAt, numberAt, nameAt, recordOf, records, listRefusal}
+use Rattle.desk.specs.Label.{nameWidth, recordSize, isKind, isNumber, isName, kindAt, numberAt, nameAt, records, listRefusal}
 
 -- the first k records lie in the list
 pub record Begins (l : List ℕ) (k : ℕ) : Type 0 where
@@ -34,14 +34,9 @@ bodyChecks l k =
 unfoldable pub bodyRefusal : List ℕ → ℕ → ℕ
 bodyRefusal l k = first (bodyChecks l k)
 
--- where a kind and number are marked as met: 129 marks a kind
+-- where a kind and number are marked as met: a kind has marks for the numbers 0 to 128
 unfoldable pub markOf : ℕ → ℕ → ℕ
 markOf kind number = 129 * kind + number
-
--- of the kinds and numbers, those of the first k records are marked
-pub record Marked (met : List Bool) (l : List ℕ) (k : ℕ) : Type 0 where
-  pub size : length met ≡ 387
-  pub marks : (kind number : ℕ) → isNumber kind number ≡ true → getD met (markOf kind number) false ≡ not (eqb (recordOf l kind number k) 0)
 
 -- a good list of n records
 pub record Good (l : List ℕ) (n : ℕ) : Type 0 where

@@ -43,7 +43,8 @@ fn mark_at(list: &[u8], k: usize) -> usize
     ROW * (list[super::RECORD * k] as usize) + number
 }
 
-// How many records a list has, or what the first faulty one is refused with.
+// How many records a list has, or what the first faulty one is refused with. A good list has each kind and number once and so 192 records
+// at most: of a longer list, record 193 is the last that is looked at.
 pub fn read_labels(list: &[u8]) -> LabelCount
     ensures { λ r. ⌜ labelCounted r ≡ readRule (now (list .entry)) ⌝ }
 {

@@ -1,6 +1,6 @@
 use mathlib.Core.Path.{_≡_}
 use Prim.Native.Nat.{_≤_}
-use Rattle.desk.proofs.LabelReading.{seek-laws}
+use Rattle.desk.proofs.LabelRecord.{seek-laws}
 use Rattle.desk.specs.Label.{recordOf}
 use Rattle.desk.proofs.label.find_record.Statement.{statement}
 use Rattle.desk.proofs.label.find_record.Tie as tie

@@ -1,7 +1,7 @@
 use mathlib.Core.Path.{_≡_}
 use Prim.Native.Nat.{_-_, _≤_}
 use lib.ListN.{length, drop}
-use Rattle.desk.proofs.LabelReading.{name-laws}
+use Rattle.desk.proofs.LabelRecord.{name-laws}
 use Rattle.desk.specs.Label.{isName}
 use Rattle.desk.proofs.label.is_name.Statement.{statement}
 use Rattle.desk.proofs.label.is_name.Tie as tie

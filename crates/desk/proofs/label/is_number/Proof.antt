@@ -1,4 +1,4 @@
-use Rattle.desk.proofs.LabelReading.{limit-laws}
+use Rattle.desk.proofs.LabelRecord.{limit-laws}
 use Rattle.desk.proofs.label.is_number.Statement.{statement}
 use Rattle.desk.proofs.label.is_number.Tie as tie
 

@@ -1,4 +1,4 @@
-use Rattle.desk.proofs.LabelReading.{record-laws}
+use Rattle.desk.proofs.LabelRecord.{record-laws}
 use Rattle.desk.proofs.label.is_record.Statement.{statement}
 use Rattle.desk.proofs.label.is_record.Tie as tie
 

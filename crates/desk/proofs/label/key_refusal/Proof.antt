@@ -1,4 +1,4 @@
-use Rattle.desk.proofs.LabelReading.{key-checked}
+use Rattle.desk.proofs.LabelRecord.{key-checked}
 use Rattle.desk.specs.Label.{isKind}
 use Rattle.desk.proofs.label.key_refusal.Statement.{statement}
 use Rattle.desk.proofs.label.key_refusal.Tie as tie

@@ -1,4 +1,4 @@
-use Rattle.desk.proofs.LabelReading.{record-laws}
+use Rattle.desk.proofs.LabelRecord.{record-laws}
 use Rattle.desk.proofs.label.number_at.Statement.{statement}
 use Rattle.desk.proofs.label.number_at.Tie as tie
 

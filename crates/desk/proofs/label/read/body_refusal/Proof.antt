@@ -1,5 +1,5 @@
 use borrow.Author.Needs.{needs}
-use Rattle.desk.proofs.LabelReading.{body-laws, inside-checked}
+use Rattle.desk.proofs.LabelRecord.{body-laws, inside-checked}
 use Rattle.desk.specs.Label.{nameAt}
 use Rattle.desk.proofs.label.read.body_refusal.Statement.{statement}
 use Rattle.desk.proofs.label.read.body_refusal.Tie as tie

@@ -1,9 +1,8 @@
 use mathlib.Core.Path.{_≡_}
 use Prim.Native.Nat.{_-_, _*_, _≤_}
 use lib.ListN.{length}
-use Rattle.desk.proofs.LabelReading.{read-laws}
+use Rattle.desk.proofs.LabelReading.{Marked, read-laws}
 use Rattle.desk.specs.Label.{recordSize, faultIn}
-use Rattle.desk.specs.LabelInner.{Marked}
 use Rattle.desk.proofs.label.read.read_labels.Statement.{statement}
 use Rattle.desk.proofs.label.read.read_labels.Tie as tie
 

@@ -15,7 +15,8 @@ use Rattle.strlib.proofs.Storing.{put-length, put-put, set-put, put-more}
 use Rattle.strlib.specs.Refusal.{refused, gives, first, also}
 use Rattle.strlib.specs.Store.{put}
 use Rattle.moving.proofs.Blanking.{blanked-in}
-use Rattle.moving.specs.Moving.{blanked}
+use Rattle.moving.proofs.Moving.{within-so}
+use Rattle.moving.specs.Moving.{within, blanked}
 use Rattle.desk.proofs.LabelRecord.{in-range}
 use Rattle.desk.proofs.LabelReading.{earlier-none, earlier-found, earlier-zero}
 use Rattle.desk.proofs.LabelFinding.{good-begins, read-records, read-number}
@@ -109,6 +110,16 @@ pub bytes-length : (kind number : ℕ) (name : List ℕ) → length name ≤ nam
 unfolding labelBytes
 bytes-length kind number name h = simp (length-append, length-replicate) (omega arith)
 
+blanked-length : (s : List ℕ) (at n : ℕ) → length (blanked s at n) ≡ length s
+unfolding blanked
+blanked-length s at n = go (within (length s) at n) refl
+  where
+    go : (t : Bool) → within (length s) at n ≡ t → length (cond t (put s at (replicate n 32)) s) ≡ length s
+    go true e =
+        let h : at + n ≤ length s = within-so (length s) at n true (sym e) refl in
+        put-length s at (replicate n 32) (omega (arith, length-replicate {A = ℕ} n 32))
+    go false e = refl
+
 module _ (b : List ℕ) (at kind number : ℕ) (name : List ℕ) (w : Writable b at number name) where
   abbrev head : List ℕ
   head = kind ∷ number / 256 ∷ number % 256 ∷ []
@@ -148,9 +159,8 @@ module _ (b : List ℕ) (at kind number : ℕ) (name : List ℕ) (w : Writable b
       f ∙ blanked-in x (at + headSize + length name) (nameWidth - length name) (omega (arith, w .room, w .short))
       ∙ rw (e, head-put, put-put b at head (omega (arith, w .room)) name, k) (put-put b at (head ++ name) (omega (arith, w .room)) (replicate (nameWidth - length name) 32))
 
-  pub record-length : (x y : List ℕ) → x ≡ put headed (at + headSize) name → y ≡ blanked x (at + headSize + length name) (nameWidth - length name) → length y ≡ length b
-  record-length x y e f =
-      rw (record-is x y e f) (put-length b at (labelBytes kind number name) (omega (arith, w .room, bytes-length kind number name (w .short))))
+  pub record-length : (x y : List ℕ) (i j : ℕ) → x ≡ put headed (at + headSize) name → y ≡ blanked x i j → length y ≡ length b
+  record-length x y i j e f = rw f (blanked-length x i j) ∙ name-length x e
 
 pub ruleset piece-laws = (needs, second-in, third-in, name-room, record-is, record-length)
 

@@ -20,7 +20,8 @@ use Rattle.moving.specs.Moving.{within, blanked}
 use Rattle.desk.proofs.LabelRecord.{in-range}
 use Rattle.desk.proofs.LabelReading.{earlier-none, earlier-found, earlier-zero}
 use Rattle.desk.proofs.LabelFinding.{good-begins, read-records, read-number}
-use Rattle.desk.specs.Label.{headSize, recordSize, nameWidth, isKind, isNumber, isName, recordOf, earlier, records, listRefusal, readRule, labelCounted, keyChecks, keyRefusal, labelBytes, newChecks, newRefusal, addRefusal, addRule}
+use Rattle.desk.specs.Label.{headSize, recordSize, nameWidth, isKind, isNumber, isName, recordOf, earlier, records, listRefusal, readRule}
+use Rattle.desk.specs.Label.{labelCounted, keyChecks, keyRefusal, labelBytes, newChecks, newRefusal, addRefusal, addRule}
 use Rattle.desk.specs.LabelInner.{Room, Writable}
 use Rattle.desk.specs.declared.label.read.LabelCount.{LabelCount}
 use Rattle.desk.specs.declared.label.read.LabelCount.the-variants.{Records, Refused as Uncounted}

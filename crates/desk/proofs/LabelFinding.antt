@@ -20,7 +20,8 @@ use Rattle.cutting.specs.Part.{IsPart, whole, sliceCut}
 use Rattle.cutting.specs.declared.Cut.the-variants.{Counted, Trimmed}
 use Rattle.desk.proofs.LabelRecord.{good-whole}
 use Rattle.desk.proofs.LabelReading.{earlier-none, earlier-found, earlier-zero}
-use Rattle.desk.specs.Label.{headSize, recordSize, nameWidth, nameAt, isRecord, recordOf, recordRefusal, earlier, faultIn, records, listRefusal, readRule, labelCounted, keyRefusal, nameOf, findRule, labelPlaced, namePart}
+use Rattle.desk.specs.Label.{headSize, recordSize, nameWidth, nameAt, isRecord, recordOf, recordRefusal, earlier, faultIn, records, listRefusal}
+use Rattle.desk.specs.Label.{readRule, labelCounted, keyRefusal, nameOf, findRule, labelPlaced, namePart}
 use Rattle.desk.specs.LabelInner.{Begins, Good}
 use Rattle.desk.specs.declared.label.read.LabelCount.{LabelCount}
 use Rattle.desk.specs.declared.label.read.LabelCount.the-variants.{Records, Refused as Uncounted}

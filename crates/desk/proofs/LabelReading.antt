@@ -152,7 +152,8 @@ module _ (l : List ℕ) (n r : ℕ) (i : recordSize * n < length l) (e : faultIn
                 → getD (set met (markOf (kindAt l n) (numberAt l n)) true) (markOf kind number) false ≡ not (eqb (cond (a && b) (suc n) (recordOf l kind number n)) 0)
             go kind number h true true x y =
                 let s : markOf kind number ≡ markOf (kindAt l n) (numberAt l n) = omega (arith, eqb-true (kindAt l n) kind x, eqb-true (numberAt l n) number y) in
-                rw (s, ne-eqb (suc n) 0 (λ (u : suc n ≡ 0). omega arith)) (getD-set-same met (markOf (kindAt l n) (numberAt l n)) true false (rw (g .size) (mark-in (markOf (kindAt l n) (numberAt l n)) refl)))
+                let i : markOf (kindAt l n) (numberAt l n) < length met = rw (g .size) (mark-in (markOf (kindAt l n) (numberAt l n)) refl) in
+                rw (s, ne-eqb (suc n) 0 (λ (u : suc n ≡ 0). omega arith)) (getD-set-same met (markOf (kindAt l n) (numberAt l n)) true false i)
             go kind number h true false x y =
                 other kind number h (λ (u : markOf kind number ≡ markOf (kindAt l n) (numberAt l n)).
                 eqb-false (numberAt l n) number y (omega (arith, in-range kind number h, body-ranged .number)))
@@ -160,4 +161,17 @@ module _ (l : List ℕ) (n r : ℕ) (i : recordSize * n < length l) (e : faultIn
                 other kind number h (λ (u : markOf kind number ≡ markOf (kindAt l n) (numberAt l n)).
                 eqb-false (kindAt l n) kind x (omega (arith, in-range kind number h, body-ranged .number)))
 
-pub ruleset read-laws = (needs, none-faulty, none-marked, starts, body-faulty, body-ranged, body-on, mark-in, mark-faulty, mark-good, mark-more, read-good)
+pub ruleset read-laws = (
+  needs,
+  none-faulty,
+  none-marked,
+  starts,
+  body-faulty,
+  body-ranged,
+  body-on,
+  mark-in,
+  mark-faulty,
+  mark-good,
+  mark-more,
+  read-good,
+)

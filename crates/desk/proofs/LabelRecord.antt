@@ -12,7 +12,8 @@ use borrow.Author.Needs.{needs}
 use borrow.Author.Tests.{leb-true, le-leb, lt-leb, eq-eqb, ne-eqb, eqb-true}
 use Rattle.strlib.proofs.Refusing.{and-both, inTurn, first-is, passed}
 use Rattle.strlib.specs.Pointer.{all}
-use Rattle.desk.specs.Label.{recordSize, limitOf, isKind, isNumber, isName, kindAt, numberAt, nameAt, isRecord, recordOf, recordChecks, recordRefusal, keyChecks, keyRefusal}
+use Rattle.desk.specs.Label.{recordSize, limitOf, isKind, isNumber, isName, kindAt, numberAt, nameAt, isRecord, recordOf, recordChecks}
+use Rattle.desk.specs.Label.{recordRefusal, keyChecks, keyRefusal}
 use Rattle.desk.specs.LabelInner.{Begins, Starts, Whole, bodyRefusal}
 
 -- ---- kinds, numbers, names
@@ -138,7 +139,8 @@ pub ruleset body-laws = (needs, no-kind, short-body, whole-body)
 abbrev pub insideChecks : List ℕ → ℕ → List (ℕ × Bool)
 insideChecks l k = (12, isNumber (kindAt l k) (numberAt l k)) ∷ (2, isName (nameAt l k)) ∷ []
 
-pub inside-checked : (l : List ℕ) (k r : ℕ) → 1 ≤ limitOf (kindAt l k) → recordSize * k + recordSize ≤ length l → r ≡ inTurn 0 (insideChecks l k) → r ≡ bodyRefusal l k
+pub inside-checked : (l : List ℕ) (k r : ℕ) → 1 ≤ limitOf (kindAt l k) → recordSize * k + recordSize ≤ length l → r ≡ inTurn 0 (insideChecks l k)
+    → r ≡ bodyRefusal l k
 unfolding bodyRefusal isKind
 inside-checked l k r h g q =
     rw (le-leb 1 (limitOf (kindAt l k)) h, le-leb (recordSize * k + recordSize) (length l) g) (first-is (insideChecks l k) refl r q)

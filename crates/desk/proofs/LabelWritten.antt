@@ -18,7 +18,9 @@ use Rattle.cutting.proofs.Bounding.{trimmed-le, trimmed-blank}
 use Rattle.cutting.specs.Cutting.{trimmed}
 use Rattle.desk.proofs.LabelFinding.{good-room, record-le}
 use Rattle.desk.proofs.LabelAdding.{Passing, passing, bytes-length}
-use Rattle.desk.specs.Label.{headSize, recordSize, nameWidth, isKind, isNumber, isName, kindAt, numberAt, nameAt, isRecord, recordOf, recordRefusal, earlier, faultIn, records, listRefusal, readRule, keyRefusal, nameOf, findRule, labelBytes, addRefusal, addRule}
+use Rattle.desk.specs.Label.{headSize, recordSize, nameWidth, isKind, isNumber, isName, kindAt, numberAt, nameAt, isRecord, recordOf}
+use Rattle.desk.specs.Label.{recordRefusal, earlier, faultIn, records, listRefusal, readRule, keyRefusal, nameOf, findRule, labelBytes}
+use Rattle.desk.specs.Label.{addRefusal, addRule}
 use Rattle.desk.specs.LabelWritten.{Written}
 
 -- ---- behind a list of n whole records, what they say does not change
@@ -180,7 +182,9 @@ module _ (l : List ℕ) (n : ℕ) (e : length l ≡ recordSize * n) (kind number
 
     pub other-is : (k m : ℕ) → ((k ≡ kind) × (m ≡ number) → ⊥) → findRule (l ++ rec) k m ≡ findRule l k m
     unfolding findRule recordOf
-    other-is k m h = rw (list-good, was-good, new-records, count, new-other k m h, of-at l rec n e k m n (omega arith), named-at l rec n e (recordOf l k m n) (record-le l k m n))
+    other-is k m h =
+        let o : recordOf (l ++ rec) k m n ≡ recordOf l k m n = of-at l rec n e k m n (omega arith) in
+        rw (list-good, was-good, new-records, count, new-other k m h, o, named-at l rec n e (recordOf l k m n) (record-le l k m n))
 
 -- ---- the theorem
 

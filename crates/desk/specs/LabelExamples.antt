@@ -8,7 +8,8 @@ use Rattle.strlib.specs.Pointer.{pointer, textOf, all}
 use Rattle.strlib.specs.Refusal.{refused, gives, nowhere, at, outcome, after, ruled}
 use Rattle.strlib.specs.Store.{put}
 use Rattle.cutting.specs.Cutting.{blanks, trimmed}
-use Rattle.desk.specs.Label.{limitOf, isKind, isNumber, isName, numberAt, nameAt, isRecord, recordOf, recordRefusal, earlier, faultIn, records, listRefusal, readRule, keyRefusal, nameOf, findRule, namePart, labelBytes, newRefusal, addRefusal, addRule}
+use Rattle.desk.specs.Label.{limitOf, isKind, isNumber, isName, numberAt, nameAt, isRecord, recordOf, recordRefusal, earlier, faultIn, records}
+use Rattle.desk.specs.Label.{listRefusal, readRule, keyRefusal, nameOf, findRule, namePart, labelBytes, newRefusal, addRefusal, addRule}
 
 -- microphone 7 and loudspeaker 31
 abbrev pub cello : List ℕ

@@ -14,4 +14,6 @@ new-refusal-spec =
     (λ c κs. search refusal-laws)
     (λ c κs. search refusal-laws)
     (λ c κs. search refusal-laws)
-    (λ c. new-behind _ _ _ _ _ _ _ (c .before .before .before .before .before .before .before .key-refusal .ensures) (c .before .before .before .before .before .before .check .ensures) _ (c .before .before .before .before .before .if1 .left) (cc)))
+    (λ c.
+    let k = c .before .before .before .before .before in
+    new-behind _ _ _ _ _ _ _ (k .before .before .key-refusal .ensures) (k .before .check .ensures) _ (k .if1 .left) (cc)))

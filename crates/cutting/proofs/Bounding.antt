@@ -129,7 +129,7 @@ unfolding blanks all
 blanks-other [] y h = simp (ne-eqb y 32 h)
 blanks-other (x ∷ s) y h = rw (blanks-other s y h) (and-false (eqb x 32))
 
-trimmed-blank : (s : List ℕ) → trimmed (s ++ (32 ∷ [])) ≡ trimmed s
+pub trimmed-blank : (s : List ℕ) → trimmed (s ++ (32 ∷ [])) ≡ trimmed s
 unfolding trimmed blanks all
 trimmed-blank [] = refl
 trimmed-blank (x ∷ s) = rw (blanks-more (x ∷ s), trimmed-blank s)

@@ -71,7 +71,7 @@ whole-text : (xs : List ℕ) → textOf xs (whole xs) ≡ xs
 unfolding textOf whole pointer
 whole-text xs = take-length xs
 
-trim-length : (xs : List ℕ) → length (textOf xs (sliceCut xs Trimmed)) ≡ trimmed xs
+pub trim-length : (xs : List ℕ) → length (textOf xs (sliceCut xs Trimmed)) ≡ trimmed xs
 unfolding sliceCut inBounds cutOf sized
 trim-length xs = text-length xs (cutOf xs (whole xs) Trimmed) (part-good xs (whole xs) Trimmed (whole-good xs) refl) ∙ ap trimmed (whole-text xs)
 

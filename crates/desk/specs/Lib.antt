@@ -1,0 +1,4 @@
+pub mod Label
+pub mod LabelInner
+pub mod LabelWritten
+pub mod LabelExamples

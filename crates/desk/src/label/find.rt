@@ -1,0 +1,58 @@
+// Looking up a label by kind and number.
+use super::read;
+use super::read::LabelCount;
+use strlib::StrPtr;
+ghost use mathlib.Core.Path.{_≡_};
+ghost use Rattle.strlib.specs.Refusal.{gives};
+ghost use Rattle.cutting.specs.Part.{IsPart};
+ghost use Rattle.desk.specs.Label.{nameOf, labelPlaced, findRule, namePart};
+ghost use Rattle.desk.specs.LabelInner.{Begins};
+
+// The answer of a lookup: where the trimmed name lies in the list.
+pub enum LabelPlace {
+    Found { place: usize, length: usize },
+    Missing,
+    Refused(u8),
+}
+
+// The name of record k, counted from 1; missing for 0.
+fn name_of(list: &[u8], k: usize) -> LabelPlace
+    requires { ⌜ Begins (now list) k ⌝ }
+    ensures { λ r. ⌜ labelPlaced r ≡ gives (nameOf (now (list .entry)) k) ⌝ }
+{
+    if k == 0 {
+        return LabelPlace::Missing;
+    }
+    let place = super::RECORD * (k - 1) + super::HEAD;
+    let name = cutting::trimmed_part(strlib::text(list, StrPtr::full(place, super::NAME)));
+    let length = name.len();
+    LabelPlace::Found { place, length }
+}
+
+pub fn find_label(list: &[u8], kind: u8, number: usize) -> LabelPlace
+    ensures { λ r. ⌜ labelPlaced r ≡ findRule (now (list .entry)) kind number ⌝ }
+{
+    let count = read::read_labels(list);
+    match count {
+        LabelCount::Records(n) => {
+            let found = super::key_refusal(kind, number);
+            if found != 0 {
+                return LabelPlace::Refused(found);
+            }
+            name_of(list, super::find_record(list, kind, number, n))
+        }
+        LabelCount::Refused(found) => LabelPlace::Refused(found),
+    }
+}
+
+// The trimmed name itself; on a refusal or no record the empty part at the list's front.
+pub fn label_name(list: &[u8], kind: u8, number: usize) -> &[u8]
+    ensures { λ r. ⌜ IsPart r (list .entry) (namePart (findRule (now (list .entry)) kind number)) ⌝ }
+{
+    let found = find_label(list, kind, number);
+    match found {
+        LabelPlace::Found { place, length } => cutting::counted_part(list, place + 1, length),
+        LabelPlace::Missing => cutting::counted_part(list, 1, 0),
+        LabelPlace::Refused(_) => cutting::counted_part(list, 1, 0),
+    }
+}

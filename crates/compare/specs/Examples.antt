@@ -1,4 +1,4 @@
--- Examples J, K and L of 01, and the manual's translated comparison, as one claim on the definitions. Assumes nothing.
+-- The manual's translated comparison, and splits and sums at the edges. Assumes nothing.
 use mathlib.Core.Path.{_≡_, refl}
 use mathlib.Core.Bool.{true, false}
 use mathlib.Core.List.{[], _∷_}
@@ -8,9 +8,6 @@ use Rattle.compare.specs.Order.{orderZ, orderN, signOf}
 use Rattle.compare.specs.Compare.{holds, pairs, lengthDecides, translated, orderAt, unequalFrom, decided, decision, comparison}
 
 pub record Examples : Type 0 where
-  pub J : comparison (bytes "abc") (bytes "abc  ") 0 0 (pos 0) ≡ record { yes = true; sign = negsuc 0; split = 0 }
-  pub K : comparison (bytes "abc") (bytes "abc  ") 0 1 (pos 0) ≡ record { yes = false; sign = negsuc 0; split = 4 }
-  pub L : comparison (bytes "abcde") (bytes "abc") 4 2 (pos 0) ≡ record { yes = false; sign = pos 1; split = 0 }
   -- the manual's call 1400: the translation meets the pad blank too, since 32 + 16 is '0'
   pub translated-pad : comparison (bytes "ABCD0") (bytes "1234") 0 0 (pos 16) ≡ record { yes = true; sign = pos 1; split = 0 }
   -- in padded style the split may lie past the shorter length
@@ -20,4 +17,4 @@ pub record Examples : Type 0 where
 
 pub examples : Examples
 unfolding holds pairs lengthDecides translated orderAt unequalFrom decided decision comparison orderZ orderN signOf
-examples = record { J = refl; K = refl; L = refl; translated-pad = refl; past-shorter = refl; under-zero = refl }
+examples = record { translated-pad = refl; past-shorter = refl; under-zero = refl }

@@ -1,4 +1,4 @@
--- Examples M and N of 01, and other texts at the edges, as one claim on the definitions. Assumes nothing.
+-- Texts and numbers at the edges. Assumes nothing.
 use Prim.Native.Nat.{ℕ}
 use mathlib.Core.Path.{_≡_, refl}
 use mathlib.Core.List.{List, [], _∷_, _++_}
@@ -25,8 +25,6 @@ abbrev pub store : List ℕ
 store = 120 ∷ 49 ∷ 50 ∷ 51 ∷ 52 ∷ 53 ∷ 200 ∷ []
 
 pub record Examples : Type 0 where
-  pub M : read 10 (45 ∷ 48 ∷ []) ≡ gives (pos 0)
-  pub N : read 10 (front ++ (56 ∷ [])) ≡ refused 8
   -- both ends of the range, and one past the lower
   pub highest : read 10 (front ++ (55 ∷ [])) ≡ gives (pos 34359738367)
   pub lowest : read 10 (45 ∷ front ++ (56 ∷ [])) ≡ gives (negsuc 34359738367)
@@ -64,8 +62,6 @@ unfolding
     value signed numberOf digitsIn digits sign written readRefusal readRule writeRefusal writeRule
 examples =
     record {
-      M = refl;
-      N = refl;
       highest = refl;
       lowest = refl;
       under = refl;

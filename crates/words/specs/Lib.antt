@@ -1,0 +1,4 @@
+pub mod Inner
+pub mod Words
+pub mod Lines
+pub mod Examples

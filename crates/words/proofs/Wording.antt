@@ -11,7 +11,8 @@ use lib.Seq.{drop-drop}
 use Rattle.strlib.proofs.Pointing.{is-good}
 use Rattle.strlib.specs.Pointer.{pointer, goodIn, textOf}
 use Rattle.words.specs.Inner.{upTo, blankCount, blanksEnd, endOf}
-use Rattle.words.specs.Words.{wordsIn, words, pointerOf, nextWord}
+use Rattle.words.specs.Words.{wordsIn, words, pointerOf, nextWord, firstWords}
+use Rattle.strlib.specs.declared.StrPtr.{StrPtr}
 use Rattle.words.specs.declared.Piece.{Piece}
 
 -- ---- what is before a byte
@@ -139,3 +140,58 @@ module _ (s : List ℕ) (at : ℕ) where
   pub word-good : at ≤ length s → goodIn (length s) (pointerOf w) ≡ true
   unfolding pointerOf pointer
   word-good h = is-good (length s) (pointerOf w) (omega arith) (word-room (word-in h))
+
+-- ---- the words by their number, from 0
+
+abbrev word : ℕ → List ℕ → ℕ → ℕ → StrPtr → StrPtr
+word n s at k d = getD (firstWords n s at) k d
+
+-- word k, which is empty on both sides where there is none
+pub word-no : (n : ℕ) (s : List ℕ) (at k : ℕ) (d : StrPtr) → k < n → textOf s (word n s at k d) ≡ getD (words (drop at s)) k []
+unfolding firstWords
+word-no zero s at k d h = absurd (omega arith)
+word-no (suc n) s at zero d h = rw (word-at s at) (go (ltb 0 (pointerOf (nextWord s at) .length)) refl)
+  where
+    go : (t : Bool) → ltb 0 (pointerOf (nextWord s at) .length) ≡ t
+        → textOf s (pointerOf (nextWord s at)) ≡ getD (cond t (textOf s (pointerOf (nextWord s at)) ∷ words (drop (nextWord s at .next) s)) []) 0 []
+    go true e = refl
+    go false e = word-text-none s at e
+word-no (suc n) s at (suc k) d h =
+    word-no n s (nextWord s at .next) k d (omega arith) ∙ rw (word-at s at) (go (ltb 0 (pointerOf (nextWord s at) .length)) refl)
+  where
+    go : (t : Bool) → ltb 0 (pointerOf (nextWord s at) .length) ≡ t
+        → getD (words (drop (nextWord s at .next) s)) k [] ≡ getD (cond t (textOf s (pointerOf (nextWord s at)) ∷ words (drop (nextWord s at .next) s)) []) (suc k) []
+    go true e = refl
+    go false e = rw (word-none s at e)
+
+ltb-suc : (m n : ℕ) → ltb m n ≡ ltb (suc m) (suc n)
+ltb-suc m n = go (ltb m n) refl
+  where
+    go : (t : Bool) → ltb m n ≡ t → ltb m n ≡ ltb (suc m) (suc n)
+    go true e = e ∙ sym (lt-ltb (suc m) (suc n) (omega (arith, ltb-true m n e)))
+    go false e = e ∙ sym (le-ltb (suc m) (suc n) (omega (arith, ltb-false m n e)))
+
+-- there is a word k exactly if the string isn't empty
+pub word-some : (n : ℕ) (s : List ℕ) (at k : ℕ) (d : StrPtr) → k < n → ltb 0 (word n s at k d .length) ≡ ltb k (length (words (drop at s)))
+unfolding firstWords
+word-some zero s at k d h = absurd (omega arith)
+word-some (suc n) s at zero d h = rw (word-at s at) (go (ltb 0 (pointerOf (nextWord s at) .length)) refl)
+  where
+    go : (t : Bool) → ltb 0 (pointerOf (nextWord s at) .length) ≡ t
+        → ltb 0 (pointerOf (nextWord s at) .length) ≡ ltb 0 (length (cond t (textOf s (pointerOf (nextWord s at)) ∷ words (drop (nextWord s at .next) s)) []))
+    go true e = e ∙ sym (lt-ltb 0 (suc (length (words (drop (nextWord s at .next) s)))) (omega arith))
+    go false e = e
+word-some (suc n) s at (suc k) d h =
+    word-some n s (nextWord s at .next) k d (omega arith) ∙ rw (word-at s at) (go (ltb 0 (pointerOf (nextWord s at) .length)) refl)
+  where
+    go : (t : Bool) → ltb 0 (pointerOf (nextWord s at) .length) ≡ t
+        → ltb k (length (words (drop (nextWord s at .next) s)))
+        ≡ ltb (suc k) (length (cond t (textOf s (pointerOf (nextWord s at)) ∷ words (drop (nextWord s at .next) s)) []))
+    go true e = ltb-suc k (length (words (drop (nextWord s at .next) s)))
+    go false e = rw (word-none s at e) (le-ltb k 0 (omega arith) ∙ sym (le-ltb (suc k) 0 (omega arith)))
+
+pub words-good : (n : ℕ) (s : List ℕ) (at k : ℕ) (d : StrPtr) → at ≤ length s → k < n → goodIn (length s) (word n s at k d) ≡ true
+unfolding firstWords
+words-good zero s at k d l h = absurd (omega arith)
+words-good (suc n) s at zero d l h = word-good s at l
+words-good (suc n) s at (suc k) d l h = words-good n s (nextWord s at .next) k d (word-in s at l) (omega arith)

@@ -1,5 +1,5 @@
 -- Words, parted by one or more blanks, with outer blanks allowed: 01, "Cue lines and labels". Assumes nothing.
-use Prim.Native.Nat.{ℕ, _-_}
+use Prim.Native.Nat.{ℕ, zero, suc, _-_}
 use mathlib.Core.Bool.{Bool, true, false, cond, not, _&&_, _||_}
 use mathlib.Core.List.{List, [], _∷_, _++_}
 use lib.Dec.{eqb}
@@ -33,3 +33,8 @@ pointerOf w = pointer (w .from) (w .to - w .from) (w .to - w .from)
 -- the first word from a place on; an empty piece where there is none
 unfoldable pub nextWord : List ℕ → ℕ → Piece
 nextWord s at = record { from = blanksEnd s at; to = endOf 32 s (blanksEnd s at); next = endOf 32 s (blanksEnd s at) }
+
+-- the first n words from a place on, as strings; where there are fewer, empty strings stand at the end
+unfoldable pub firstWords : ℕ → List ℕ → ℕ → List StrPtr
+firstWords zero s at = []
+firstWords (suc n) s at = pointerOf (nextWord s at) ∷ firstWords n s (nextWord s at .next)

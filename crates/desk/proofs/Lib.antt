@@ -1,0 +1,3 @@
+pub mod CueNumbers
+pub mod CueWords
+pub mod CueReading

@@ -1,0 +1,3 @@
+pub mod Cue
+pub mod CueInner
+pub mod CueExamples

@@ -1,0 +1,21 @@
+use borrow.Author.Needs.{needs}
+use Rattle.answers.proofs.Putting.{total-is}
+use Rattle.answers.proofs.program.put_total.Statement.{statement}
+use Rattle.answers.proofs.program.put_total.Tie as tie
+
+pub put-total-spec : {M : Type 1} → statement M
+put-total-spec =
+    tie.close
+    (tie.spec
+    (λ c. search needs)
+    (λ c κs. tt)
+    (λ c. search needs)
+    (λ c κs. tt)
+    (λ c. search needs)
+    (λ c κs. tt)
+    (λ c κs. tt)
+    (λ c. search needs)
+    (λ c κs. tt)
+    (λ c. search needs)
+    (λ c.
+    total-is _ _ _ _ _ _ _ _ _ _ _ _ _ (c .before .before .before .before .before .before .before .before .minus .ensures) (c .before .before .before .before .before .before .before .before .before .before .before .before .before .before .before .before .before .before .append-both .ensures) (c .before .before .before .before .before .before .before .before .before .before .before .before .before .append-both2 .ensures) (c .before .before .before .before .before .before .before .append-both3 .ensures) (c .before .before .append .ensures)))

@@ -4,7 +4,7 @@ use mathlib.Core.Path.{_≡_, refl, sym, ap, _∙_}
 use mathlib.Core.Bool.{Bool, true, false, cond}
 use mathlib.Core.List.{List, [], _∷_, _++_, append-assoc, append-nil}
 use Prim.Native.Nat.{ℕ, zero, suc, _+_, _-_, _≤_, _<_, min}
-use native.Mathlib.Nat.{add-zero, add-assoc, pos-of-ne-zero}
+use native.Mathlib.Nat.{add-zero, add-assoc}
 use native.Mathlib.Omega.{arith}
 use borrow.Author.Needs.{needs}
 use borrow.Author.Tests.{lt-leb, ltb-true, ltb-false, lt-ltb, le-ltb}
@@ -330,19 +330,19 @@ full-last [] h = absurd (omega (arith, h))
 full-last (c ∷ cs) h = refl
 
 module _ (hold o : List ℕ) (s : State) where
-  pub end-none : (o′ : List ℕ) (r : ℕ) → Fits w64 (s .lines) → Fits w64 (s .ok) → s .held ≡ 0 → Grown o 0 o′ r (totalText (s .lines) (s .ok) (s .lines - s .ok))
+  pub end-none : (o′ : List ℕ) (r : ℕ) → Fits w64 (s .lines) → Fits w64 (s .ok) → s .held ≤ 0 → Grown o 0 o′ r (totalText (s .lines) (s .ok) (s .lines - s .ok))
       → Grown o 0 o′ r (endText (s .lines) (s .ok) (take (s .held) hold))
   unfolding endText lastOf answersText goods totals
   end-none o′ r f k z g =
-      let e : take (s .held) hold ≡ [] = ap (λ (k : ℕ). take k hold) z in
+      let y : s .held ≡ 0 = omega arith in
+      let e : take (s .held) hold ≡ [] = ap (λ (j : ℕ). take j hold) y in
       rw (e, add-zero (s .lines), add-zero (s .ok), ← (count-fits (s .lines) f), ← (count-fits (s .ok) k)) g
 
-  pub end-last : (o1 o′ x : List ℕ) (t : State) (r : ℕ) → length hold ≡ 65537 → (s .held ≡ 0 → ⊥) → x ≡ take (s .held) hold
+  pub end-last : (o1 o′ x : List ℕ) (t : State) (r : ℕ) → length hold ≡ 65537 → 0 < s .held → x ≡ take (s .held) hold
       → Answered (record { lines = s .lines; ok = s .ok; held = 0; out = 0 }) o (cueRule x 64 128) t o1
       → Grown o1 (t .out) o′ r (totalText (t .lines) (t .ok) (t .lines - t .ok)) → Grown o 0 o′ r (endText (s .lines) (s .ok) (take (s .held) hold))
   unfolding endText answersText goods totals
-  end-last o1 o′ x t r size z ex w g =
-      let h : 0 < s .held = pos-of-ne-zero z in
+  end-last o1 o′ x t r size h ex w g =
       let i : 0 < length x = rw (ex, length-take) (omega arith) in
       let l : lastOf x ≡ x ∷ [] = full-last x i in
       let m = grow-more o 0 o1 (t .out) o′ r (answerText (counted (s .lines + 1)) (cueRule x 64 128)) (totalText (t .lines) (t .ok) (t .lines - t .ok)) (w .text) g in

@@ -198,9 +198,9 @@ pub fn finish(hold: &[u8; 65537], out: &mut [u8], s: State) -> usize
         held: 0,
         out: 0,
     };
-    if s.held == 0 {
+    if 0 < s.held {
+        let t = answer(buffer::front(hold, s.held), out, t);
         return put_total(out, t);
     }
-    let t = answer(buffer::front(hold, s.held), out, t);
     put_total(out, t)
 }

@@ -17,7 +17,7 @@ append-spec =
     (tie.spec
     Inv-loop
     μ-loop
-    (λ c κs. search grow-laws)
+    (λ c κs. tt)
     (λ c. search grow-laws)
     (λ c. search grow-laws)
     (λ c. search grow-laws)

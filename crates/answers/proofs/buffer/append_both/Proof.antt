@@ -7,7 +7,7 @@ pub append-both-spec : {M : Type 1} → statement M
 append-both-spec =
     tie.close
     (tie.spec
-    (λ c κs. search (needs, grow-more))
-    (λ c κs. search (needs, grow-more))
-    (λ c. search (needs, grow-more))
+    (λ c κs. tt)
+    (λ c κs. tt)
+    (λ c. search needs)
     (λ c. search (needs, grow-more)))

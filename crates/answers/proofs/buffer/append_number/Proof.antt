@@ -8,10 +8,10 @@ pub append-number-spec : {M : Type 1} → statement M
 append-number-spec =
     tie.close
     (tie.spec
-    (λ c κs. search needs)
+    (λ c κs. tt)
     (λ c. search needs)
     (λ c. search needs)
-    (λ c κs. search needs)
+    (λ c κs. tt)
     (λ c. search needs)
     (λ c.
     grow-is _ _ _ _ _ _

@@ -8,9 +8,9 @@ pub answer-spec : {M : Type 1} → statement M
 answer-spec =
     tie.close
     (tie.spec
+    (λ c κs. tt)
+    (λ c κs. tt)
     (λ c κs. search (needs, answer-is, rule-writable))
-    (λ c κs. search (needs, answer-is, rule-writable))
-    (λ c κs. search (needs, answer-is, rule-writable))
-    (λ c κs. search (needs, answer-is, rule-writable))
+    (λ c κs. tt)
     (λ c. search (needs, answer-is, rule-writable))
     (λ c. search (needs, answer-is, rule-writable)))

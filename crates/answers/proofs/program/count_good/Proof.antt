@@ -7,7 +7,7 @@ count-good-spec =
     tie.close
     (tie.spec
     (λ c. search count-laws)
-    (λ c κs. search count-laws)
+    (λ c κs. tt)
     (λ c. search count-laws)
     (λ c. search count-laws)
     (λ c. search count-laws))

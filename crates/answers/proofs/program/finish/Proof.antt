@@ -6,11 +6,11 @@ pub finish-spec : {M : Type 1} → statement M
 finish-spec =
     tie.close
     (tie.spec
-    (λ c κs. search feed-laws)
+    (λ c κs. tt)
+    (λ c κs. tt)
+    (λ c κs. tt)
     (λ c. search feed-laws)
     (λ c. search feed-laws)
-    (λ c κs. search feed-laws)
-    (λ c κs. search feed-laws)
-    (λ c κs. search feed-laws)
+    (λ c κs. tt)
     (λ c. search feed-laws)
     (λ c. search feed-laws))

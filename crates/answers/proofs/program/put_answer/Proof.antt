@@ -9,9 +9,9 @@ unfolding answerText
 put-answer-spec =
     tie.close
     (tie.spec
-    (λ c κs. search (needs, grow-more))
-    (λ c κs. search (needs, grow-more))
-    (λ c. search (needs, grow-more))
-    (λ c κs. search (needs, grow-more))
-    (λ c. search (needs, grow-more))
+    (λ c κs. tt)
+    (λ c κs. search needs)
+    (λ c. search needs)
+    (λ c κs. tt)
+    (λ c. search needs)
     (λ c. search (needs, grow-more)))

@@ -11,7 +11,7 @@ put-cue-spec =
     (λ c. search put-laws)
     (λ c. search put-laws)
     (λ c. search put-laws)
-    (λ c κs. search put-laws)
+    (λ c κs. tt)
     (λ c. search put-laws)
     (λ c. search put-laws)
     (λ c. search put-laws)

@@ -7,11 +7,11 @@ pub put-gain-spec : {M : Type 1} → statement M
 put-gain-spec =
     tie.close
     (tie.spec
-    (λ c κs. search (needs, gain-minus, gain-plain))
+    (λ c κs. search needs)
     (λ c. search (needs, gain-minus, gain-plain))
-    (λ c κs. search (needs, gain-minus, gain-plain))
+    (λ c κs. tt)
     (λ c. search (needs, gain-minus, gain-plain))
     (λ c. search (needs, gain-minus, gain-plain))
-    (λ c κs. search (needs, gain-minus, gain-plain))
+    (λ c κs. tt)
     (λ c. search (needs, gain-minus, gain-plain))
     (λ c. search (needs, gain-minus, gain-plain)))

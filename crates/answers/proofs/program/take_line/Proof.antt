@@ -6,15 +6,15 @@ pub take-line-spec : {M : Type 1} → statement M
 take-line-spec =
     tie.close
     (tie.spec
-    (λ c κs. search feed-laws)
+    (λ c κs. tt)
     (λ c. search feed-laws)
     (λ c. search feed-laws)
-    (λ c κs. search feed-laws)
-    (λ c κs. search feed-laws)
-    (λ c κs. search feed-laws)
+    (λ c κs. tt)
+    (λ c κs. tt)
+    (λ c κs. tt)
     (λ c. search feed-laws)
     (λ c. search feed-laws)
     (λ c. search feed-laws)
-    (λ c κs. search feed-laws)
+    (λ c κs. tt)
     (λ c. search feed-laws)
     (λ c. search feed-laws))

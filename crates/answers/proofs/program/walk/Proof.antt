@@ -18,9 +18,9 @@ walk-spec =
     Inv-loop
     μ-loop
     (λ c. search feed-laws)
-    (λ c κs. search feed-laws)
-    (λ c κs. search feed-laws)
-    (λ c κs. search feed-laws)
+    (λ c κs. tt)
+    (λ c κs. tt)
+    (λ c κs. tt)
     (λ c κs. search feed-laws)
     (λ c. search feed-laws)
     (λ c. search feed-laws)

@@ -19,7 +19,7 @@ use Rattle.strlib.specs.Refusal.{Outcome, refused, gives, outcome}
 use Rattle.strlib.specs.declared.StrPtr.{StrPtr}
 use Rattle.words.proofs.Lining.{line-text, next-more}
 use Rattle.words.proofs.Wording.{upTo-take}
-use Rattle.words.specs.Inner.{upTo, endOf}
+use Rattle.words.specs.Ends.{upTo, endOf}
 use Rattle.words.specs.Lines.{nextLine}
 use Rattle.words.specs.Words.{pointerOf}
 use Rattle.words.specs.declared.Piece.{Piece}
@@ -38,7 +38,7 @@ too-long : (l : List ℕ) → 65536 < length l → cueRule l 64 128 ≡ refused 
 unfolding cueRule cueRefusal storeFits outcome
 too-long l h = rw (lt-leb (length l) 65536 h)
 
-cue-cut : (l : List ℕ) → cueRule (take 65537 l) 64 128 ≡ cueRule l 64 128
+pub cue-cut : (l : List ℕ) → cueRule (take 65537 l) 64 128 ≡ cueRule l 64 128
 cue-cut l =
     either (length l) 65537
     (λ (h : length l ≤ 65537). rw (take-all 65537 l h))

@@ -9,7 +9,7 @@ use native.Mathlib.Omega.{arith}
 use lib.Dec.{eqb}
 use lib.ListN.{length, take, length-append}
 use lib.Seq.{append-snoc, take-take, take-all}
-use Rattle.words.specs.Inner.{upTo}
+use Rattle.words.specs.Ends.{upTo}
 use Rattle.words.specs.Lines.{linesIn, lines}
 use Rattle.answers.proofs.Growing.{grown-whole}
 use Rattle.answers.proofs.Feeding.{cue-alike, count-again, count-fixed, answers-counted, answers-append, goods-append, ended-append, left-append, Alike, alike}

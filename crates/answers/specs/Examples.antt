@@ -9,7 +9,7 @@ use Rattle.number.specs.Written.{digitsIn, digits, sign, written}
 use Rattle.strlib.specs.Pointer.{storeFits, all, characters}
 use Rattle.strlib.specs.Quoted.{bytes}
 use Rattle.strlib.specs.Refusal.{Outcome, refused, gives, outcome}
-use Rattle.words.specs.Inner.{upTo}
+use Rattle.words.specs.Ends.{upTo}
 use Rattle.words.specs.Lines.{linesIn, lines}
 use Rattle.words.specs.Words.{wordsIn, same}
 use Rattle.desk.specs.Cue.{formed, isSize, isIndex, isGain, cueRefusal, cueOf, cueRule}

@@ -53,7 +53,7 @@ isIndex size z = leZ (pos 1) z && leZ z (pos size)
 unfoldable pub isGain : ℤ → Bool
 isGain z = leZ (negsuc 959) z && leZ z (pos 120)
 
--- the checks of a cue line, in their order: 11, then 7 or 8 of the numbers from left to right, then 12
+-- the checks of a cue line, in their order: 3 and 2 as in every call, 11, then 7 or 8 of the numbers from left to right, then 12
 abbrev pub cueChecks : List ℕ → ℕ → ℕ → List (ℕ × Bool)
 cueChecks line mics lsps =
     (3, storeFits line) ∷ (3, isSize 64 mics) ∷ (3, isSize 128 lsps)

@@ -10,7 +10,7 @@ use Rattle.number.specs.Text.{unblanked, minus, unsigned, isDigit, areDigits, i
 use Rattle.strlib.specs.Pointer.{storeFits, all, characters}
 use Rattle.strlib.specs.Quoted.{bytes}
 use Rattle.strlib.specs.Refusal.{Outcome, refused, gives, outcome}
-use Rattle.words.specs.Inner.{upTo}
+use Rattle.words.specs.Ends.{upTo}
 use Rattle.words.specs.Words.{wordsIn, same}
 use Rattle.desk.specs.declared.cue.Cue.{Cue}
 use Rattle.desk.specs.Cue.{formed, isSize, isIndex, isGain, cueRefusal, cueOf, cueRule}

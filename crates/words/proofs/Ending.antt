@@ -12,7 +12,7 @@ use lib.ListN.{length, getD, drop, drop-of-length-le}
 use lib.Seq.{drop-cons}
 use Rattle.strlib.specs.Pointer.{pointer}
 use Rattle.strlib.specs.declared.StrPtr.{StrPtr}
-use Rattle.words.specs.Inner.{upTo, blankCount, blanksEnd, endOf}
+use Rattle.words.specs.Ends.{upTo, blankCount, blanksEnd, endOf}
 use Rattle.words.specs.Words.{same, pointerOf}
 use Rattle.words.specs.declared.Piece.{Piece}
 

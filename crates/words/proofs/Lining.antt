@@ -10,7 +10,7 @@ use lib.Dec.{eqb, ltb}
 use lib.ListN.{length, take, drop, length-drop, drop-of-length-le}
 use lib.Seq.{drop-drop}
 use Rattle.strlib.specs.Pointer.{pointer, textOf}
-use Rattle.words.specs.Inner.{upTo, endOf}
+use Rattle.words.specs.Ends.{upTo, endOf}
 use Rattle.words.specs.Words.{pointerOf}
 use Rattle.words.specs.Lines.{linesIn, lines, nextLine, walk}
 use Rattle.words.specs.declared.Piece.{Piece}

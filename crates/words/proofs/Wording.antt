@@ -10,7 +10,7 @@ use lib.ListN.{length, getD, take, drop, length-drop}
 use lib.Seq.{drop-drop}
 use Rattle.strlib.proofs.Pointing.{is-good}
 use Rattle.strlib.specs.Pointer.{pointer, goodIn, textOf}
-use Rattle.words.specs.Inner.{upTo, blankCount, blanksEnd, endOf}
+use Rattle.words.specs.Ends.{upTo, blankCount, blanksEnd, endOf}
 use Rattle.words.specs.Words.{wordsIn, words, pointerOf, nextWord, firstWords}
 use Rattle.strlib.specs.declared.StrPtr.{StrPtr}
 use Rattle.words.specs.declared.Piece.{Piece}

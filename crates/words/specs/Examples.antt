@@ -3,7 +3,7 @@ use Prim.Native.Nat.{ℕ}
 use mathlib.Core.Path.{_≡_, refl}
 use mathlib.Core.List.{List, [], _∷_, _++_}
 use Rattle.strlib.specs.Quoted.{bytes}
-use Rattle.words.specs.Inner.{upTo}
+use Rattle.words.specs.Ends.{upTo}
 use Rattle.words.specs.Words.{wordsIn, words}
 use Rattle.words.specs.Lines.{linesIn, lines}
 

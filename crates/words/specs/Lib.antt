@@ -1,4 +1,4 @@
-pub mod Inner
+pub mod Ends
 pub mod Words
 pub mod Lines
 pub mod Examples

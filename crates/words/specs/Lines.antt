@@ -5,7 +5,7 @@ use mathlib.Core.List.{List, [], _∷_, _++_}
 use lib.Dec.{eqb, ltb}
 use lib.ListN.{length}
 use Rattle.strlib.specs.Pointer.{textOf}
-use Rattle.words.specs.Inner.{upTo, endOf}
+use Rattle.words.specs.Ends.{upTo, endOf}
 use Rattle.words.specs.Words.{pointerOf}
 use Rattle.words.specs.declared.Piece.{Piece}
 

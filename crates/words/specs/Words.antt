@@ -5,7 +5,7 @@ use mathlib.Core.List.{List, [], _∷_, _++_}
 use lib.Dec.{eqb}
 use Rattle.strlib.specs.Pointer.{pointer}
 use Rattle.strlib.specs.declared.StrPtr.{StrPtr}
-use Rattle.words.specs.Inner.{upTo, blanksEnd, endOf}
+use Rattle.words.specs.Ends.{upTo, blanksEnd, endOf}
 use Rattle.words.specs.declared.Piece.{Piece}
 
 -- the words that begin in a text: a word begins at a byte that is no blank (32) and comes first or behind a blank, and holds the bytes

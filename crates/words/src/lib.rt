@@ -2,7 +2,7 @@
 ghost use mathlib.Core.Path.{_≡_};
 ghost use Rattle.words.specs.Lines.{nextLine};
 ghost use Rattle.words.specs.Words.{same, pointerOf, nextWord};
-ghost use Rattle.words.specs.Inner.{blanksEnd, endOf};
+ghost use Rattle.words.specs.Ends.{blanksEnd, endOf};
 use strlib::StrPtr;
 
 const LINE_END: u8 = 10;

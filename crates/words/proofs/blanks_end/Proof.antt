@@ -1,7 +1,7 @@
 use mathlib.Core.Path.{_≡_}
 use Prim.Native.Nat.{_-_}
 use lib.ListN.{length}
-use Rattle.words.specs.Inner.{blanksEnd}
+use Rattle.words.specs.Ends.{blanksEnd}
 use Rattle.words.proofs.Ending.{end-laws}
 use Rattle.words.proofs.blanks_end.Statement.{statement}
 use Rattle.words.proofs.blanks_end.Tie as tie

@@ -22,4 +22,8 @@ put-ok-spec =
     (λ c.
     let cue : Cue = c .before .before .before .before .before .before .before .before .before .before .before .before .before .before .before .before .before .before .before .before .before .args .cue in
     let f : SFits w64 (cue .gain) = search needs in
-    ok-is _ _ _ _ _ _ _ _ _ _ cue _ (toZ-ofZ f) (c .before .before .before .before .before .before .before .before .before .before .before .before .before .before .before .before .before .append-both .ensures) (c .before .before .before .before .before .before .before .before .before .before .before .before .append-both2 .ensures) (c .before .before .before .before .before .before .before .append .ensures) (c .before .before .put-gain .ensures)))
+    let third = c .before .before .before .before .before .before .before in
+    let second = third .before .before .before .before .before in
+    let first = second .before .before .before .before .before in
+    ok-is _ _ _ _ _ _ _ _ _ _ cue _ (toZ-ofZ f) (first .append-both .ensures) (second .append-both2 .ensures) (third .append .ensures)
+    (c .before .before .put-gain .ensures)))

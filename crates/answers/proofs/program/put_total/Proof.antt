@@ -18,4 +18,8 @@ put-total-spec =
     (λ c κs. tt)
     (λ c. search needs)
     (λ c.
-    total-is _ _ _ _ _ _ _ _ _ _ _ _ _ (c .before .before .before .before .before .before .before .before .minus .ensures) (c .before .before .before .before .before .before .before .before .before .before .before .before .before .before .before .before .before .before .append-both .ensures) (c .before .before .before .before .before .before .before .before .before .before .before .before .before .append-both2 .ensures) (c .before .before .before .before .before .before .before .append-both3 .ensures) (c .before .before .append .ensures)))
+    let third = c .before .before .before .before .before .before .before in
+    let second = third .before .before .before .before .before .before in
+    let first = second .before .before .before .before .before in
+    total-is _ _ _ _ _ _ _ _ _ _ _ _ _ (third .before .minus .ensures) (first .append-both .ensures) (second .append-both2 .ensures)
+    (third .append-both3 .ensures) (c .before .before .append .ensures)))

@@ -59,6 +59,11 @@ pub count-fixed : (a t : ℕ) → t ≡ counted a → t ≡ counted t
 unfolding counted
 count-fixed a t e = omega arith
 
+-- a counter is exact for any input under 2^64 lines
+pub counted-is : (n : ℕ) → n < 18446744073709551616 → counted n ≡ n
+unfolding counted
+counted-is n h = omega arith
+
 pub count-fits : (n : ℕ) → Fits w64 n → n ≡ counted n
 unfolding counted
 count-fits n f = omega (arith, f .fits)

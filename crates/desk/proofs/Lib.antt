@@ -1,3 +1,7 @@
+pub mod CueNumbers
+pub mod CueWords
+pub mod CueReading
+pub mod CueGiven
 pub mod LabelRecord
 pub mod LabelReading
 pub mod LabelFinding

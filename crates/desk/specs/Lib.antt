@@ -1,3 +1,6 @@
+pub mod Cue
+pub mod CueInner
+pub mod CueExamples
 pub mod Label
 pub mod LabelInner
 pub mod LabelWritten

@@ -3,6 +3,7 @@ mod add;
 mod find;
 mod read;
 
+use super::cue::Cue;
 ghost use mathlib.Core.Path.{_≡_};
 ghost use Prim.Native.Nat.{_+_, _*_};
 ghost use Rattle.desk.specs.Label.{numberAt, limitOf, isNumber, isName, isRecord, recordOf, keyRefusal};
@@ -15,11 +16,6 @@ pub use find::label_name;
 pub use read::LabelCount;
 pub use read::read_labels;
 
-// The greatest numbers of microphones, kind 1, and of loudspeakers, kind 2.
-const MICROPHONES: usize = 64;
-
-const LOUDSPEAKERS: usize = 128;
-
 // Bytes before a name, of a name, and of a record.
 const HEAD: usize = 3;
 
@@ -27,15 +23,15 @@ const NAME: usize = 16;
 
 const RECORD: usize = HEAD + NAME;
 
-// The greatest number of a kind, 0 for what is no kind.
+// The greatest number of a kind: 1, microphones, or 2, loudspeakers; 0 for what is no kind.
 fn limit_of(kind: u8) -> usize
     ensures { λ r. ⌜ r ≡ limitOf kind ⌝ }
 {
     if kind == 1 {
-        return MICROPHONES;
+        return Cue::MICROPHONES_MAX;
     }
     if kind == 2 {
-        return LOUDSPEAKERS;
+        return Cue::LOUDSPEAKERS_MAX;
     }
     0
 }

@@ -1,6 +1,10 @@
-// The desk: what stands above the string library and sees only its promises.
+// The desk: cue lines and the label list. It stands above the string library and sees only its promises.
+mod cue;
 mod label;
 
+pub use cue::Cue;
+pub use cue::CueAnswer;
+pub use cue::read_cue;
 pub use label::LabelAdded;
 pub use label::LabelCount;
 pub use label::LabelPlace;

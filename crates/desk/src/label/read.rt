@@ -1,11 +1,12 @@
 // The reader. It marks each kind and number that it met, so that its work grows with the list only.
+use crate::cue::Cue;
 use strlib::StrPtr;
 ghost use mathlib.Core.Path.{_≡_};
 ghost use Rattle.desk.specs.Label.{kindAt, numberAt, labelCounted, readRule};
 ghost use Rattle.desk.specs.LabelInner.{Starts, Ranged, bodyRefusal, markOf};
 
 // Marks of one kind, for the numbers from 0 on, and marks in all.
-const ROW: usize = super::LOUDSPEAKERS + 1;
+const ROW: usize = Cue::LOUDSPEAKERS_MAX + 1;
 
 const MARKS: usize = 3 * ROW;
 

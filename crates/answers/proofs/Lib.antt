@@ -1,0 +1,5 @@
+pub mod Growing
+pub mod Putting
+pub mod Feeding
+pub mod Fitting
+pub mod Running

@@ -1,0 +1,31 @@
+use Prim.Native.Nat.{_≤_, _-_}
+use lib.ListN.{length, take}
+use Rattle.answers.specs.Buffer.{Grown}
+use Rattle.answers.proofs.Growing.{grow-laws}
+use Rattle.answers.proofs.buffer.append.Statement.{statement}
+use Rattle.answers.proofs.buffer.append.Tie as tie
+
+abbrev Inv-loop : tie.InvT-loop
+Inv-loop buffer₀ n text at₀ i₀ buffer at i = (i ≤ length text) × Grown buffer₀ n buffer at (take i text)
+
+abbrev μ-loop : tie.MeasureT-loop
+μ-loop buffer₀ n text at₀ i₀ buffer at i = length text - i
+
+pub append-spec : {M : Type 1} → statement M
+append-spec =
+    tie.close
+    (tie.spec
+    Inv-loop
+    μ-loop
+    (λ c κs. tt)
+    (λ c. search grow-laws)
+    (λ c. search grow-laws)
+    (λ c. search grow-laws)
+    (λ c. search grow-laws)
+    (λ c. search grow-laws)
+    (λ c. search grow-laws)
+    (λ c. search grow-laws)
+    (λ c. search grow-laws)
+    (λ c. search grow-laws)
+    (λ c. search grow-laws)
+    (λ c. search grow-laws))

@@ -1,0 +1,12 @@
+use borrow.Author.Needs.{needs}
+use Rattle.answers.proofs.Growing.{front-is, front-length}
+use Rattle.answers.proofs.buffer.front.Statement.{statement}
+use Rattle.answers.proofs.buffer.front.Tie as tie
+
+pub front-spec : {M : Type 1} → statement M
+front-spec =
+    tie.close
+    (tie.spec
+    (λ c κs. tt)
+    (λ c. front-length _ _ _ (c .before .least .ensures))
+    (λ c. search (needs, front-is)))

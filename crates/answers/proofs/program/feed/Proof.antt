@@ -1,0 +1,11 @@
+use Rattle.answers.proofs.Feeding.{feed-laws}
+use Rattle.answers.proofs.program.feed.Statement.{statement}
+use Rattle.answers.proofs.program.feed.Tie as tie
+
+pub feed-spec : {M : Type 1} → statement M
+feed-spec =
+    tie.close
+    (tie.spec
+    (λ c κs. search feed-laws)
+    (λ c. search feed-laws)
+    (λ c. search feed-laws))

@@ -1,0 +1,6 @@
+pub mod Buffer
+pub mod Text
+pub mod Program
+pub mod Inner
+pub mod Run
+pub mod Examples

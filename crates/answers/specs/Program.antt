@@ -1,0 +1,73 @@
+-- The program: 01, "Cue lines and labels". It reads cue lines for 64 by 128, in pieces as they come. Assumes nothing.
+use Prim.Native.Nat.{ℕ, _+_, _-_, min}
+use mathlib.Core.Path.{_≡_}
+use mathlib.Core.Bool.{cond}
+use mathlib.Core.List.{List, [], _∷_, _++_}
+use lib.Dec.{eqb}
+use lib.ListN.{length, take}
+use Rattle.strlib.specs.Refusal.{Outcome, refused, gives}
+use Rattle.words.specs.Lines.{lines}
+use Rattle.desk.specs.Cue.{cueRule}
+use Rattle.desk.specs.declared.cue.Cue.{Cue}
+use Rattle.answers.specs.Buffer.{Grown}
+use Rattle.answers.specs.Text.{heading, answerText, totalText}
+use Rattle.answers.specs.declared.program.State.{State}
+
+-- what a counter shows: it stays at 2^64 − 1, which no input has lines enough to reach
+unfoldable pub counted : ℕ → ℕ
+counted n = min n 18446744073709551615
+
+-- a good line counts 1
+unfoldable pub goodOf : Outcome Cue → ℕ
+goodOf (gives c) = 1
+goodOf (refused k) = 0
+
+-- the answers to lines that come behind n others, and how many of the lines are good
+unfoldable pub answersText : ℕ → List (List ℕ) → List ℕ
+answersText n [] = []
+answersText n (l ∷ ls) = answerText (counted (n + 1)) (cueRule l 64 128) ++ answersText (n + 1) ls
+
+unfoldable pub goods : List (List ℕ) → ℕ
+goods [] = 0
+goods (l ∷ ls) = goodOf (cueRule l 64 128) + goods ls
+
+-- the last line, of n lines and k good ones
+unfoldable pub totals : ℕ → ℕ → List ℕ
+totals n k = totalText (counted n) (counted k) (counted n - counted k)
+
+-- what the program writes for an input: the heading, an answer to each line, and the total
+unfoldable pub programText : List ℕ → List ℕ
+programText input = heading ++ (answersText 0 (lines input) ++ totals (length (lines input)) (goods (lines input)))
+
+-- ---- an input that comes in pieces
+
+-- the lines that end in a piece, where p came before it and has no end yet
+unfoldable pub ended : List ℕ → List ℕ → List (List ℕ)
+ended p [] = []
+ended p (c ∷ cs) = cond (eqb c 10) (p ∷ ended [] cs) (ended (p ++ (c ∷ [])) cs)
+
+-- what has no end yet behind it
+unfoldable pub left : List ℕ → List ℕ → List ℕ
+left p [] = p
+left p (c ∷ cs) = cond (eqb c 10) (left [] cs) (left (p ++ (c ∷ [])) cs)
+
+-- a last line without an end counts if it isn't empty
+unfoldable pub lastOf : List ℕ → List (List ℕ)
+lastOf [] = []
+lastOf (c ∷ cs) = (c ∷ cs) ∷ []
+
+-- what is written at the input's end, behind n lines with k good ones, where q has no end
+unfoldable pub endText : ℕ → ℕ → List ℕ → List ℕ
+endText n k q = answersText n (lastOf q) ++ totals (n + length (lastOf q)) (k + goods (lastOf q))
+
+-- a state with its buffer of answers empty
+abbrev pub anew : State → State
+anew s = record { lines = s .lines; ok = s .ok; held = s .held; out = 0 }
+
+-- from a state s, with the bytes h held and the buffer o, the lines e were answered, and q is held, cut where there is no room
+pub record Fed (s : State) (h o : List ℕ) (e : List (List ℕ)) (q : List ℕ) (r : State) (h′ o′ : List ℕ) : Type 0 where
+  pub text : Grown o (s .out) o′ (r .out) (answersText (s .lines) e)
+  pub lines : r .lines ≡ counted (s .lines + length e)
+  pub ok : r .ok ≡ counted (s .ok + goods e)
+  pub kept : take (r .held) h′ ≡ take (length h) q
+  pub size : length h′ ≡ length h

@@ -1,0 +1,28 @@
+-- A cue that is given lies in the matrix, and its gain in the range: every check of the rule held. Assumes nothing.
+use mathlib.Core.Path.{_≡_, refl, sym, ap, _∙_}
+use mathlib.Core.Bool.{Bool, true, _&&_, false≢true}
+use mathlib.Core.List.{List}
+use Prim.Native.Nat.{ℕ, _≤_}
+use borrow.Author.Tests.{leb-true}
+use lib.Dec.{leb}
+use lib.IntN.{ℤ, pos, negsuc, natAbs}
+use Rattle.number.specs.Text.{numberOf}
+use Rattle.strlib.proofs.Refusing.{and-both, passed, outcome-gave}
+use Rattle.strlib.specs.Refusal.{gives}
+use Rattle.desk.specs.declared.cue.Cue.{Cue}
+use Rattle.desk.specs.Cue.{isIndex, isGain, micWord, lspWord, gainWord, cueChecks, cueRefusal, cueOf, cueRule}
+
+index-in : (size : ℕ) (z : ℤ) → isIndex size z ≡ true → (1 ≤ natAbs z) × (natAbs z ≤ size)
+unfolding isIndex
+index-in size (pos n) e = let b = and-both (leb 1 n) (leb n size) e in (leb-true 1 n (b .0), leb-true n size (b .1))
+index-in size (negsuc n) e = absurd (false≢true e)
+
+pub cue-given : (line : List ℕ) (mics lsps : ℕ) (c : Cue) → cueRule line mics lsps ≡ gives c
+    → ((1 ≤ c .microphone) × (c .microphone ≤ mics)) × (((1 ≤ c .loudspeaker) × (c .loudspeaker ≤ lsps)) × (isGain (c .gain) ≡ true))
+unfolding cueRule cueRefusal cueOf
+cue-given line mics lsps c e =
+    let n = numberOf 10 (micWord line) in
+    let m = numberOf 10 (lspWord line) in
+    let g = outcome-gave (cueRefusal line mics lsps) (cueOf n m (numberOf 10 (gainWord line))) c e in
+    let ok = passed (cueChecks line mics lsps) refl (g .0) .1 .1 .1 .1 .1 .1 .1 .1 .1 .1 .1 .1 in
+    rw (← (g .1)) (index-in mics n (ok .0), (index-in lsps m (ok .1 .0), ok .1 .1 .0))

@@ -1,0 +1,80 @@
+-- Cue lines: 01, "Cue lines and labels". `MIC n TO LSP m GAIN g` is seven words; the line is its own store. Assumes nothing.
+use Prim.Native.Nat.{ℕ, _-_}
+use mathlib.Core.Bool.{Bool, _&&_}
+use mathlib.Core.List.{List, [], _∷_}
+use lib.Dec.{eqb, leb}
+use lib.IntN.{ℤ, pos, negsuc, natAbs}
+use lib.ListN.{length, getD}
+use lib.Signed.{leZ}
+use Rattle.number.specs.Limits.{inRange}
+use Rattle.number.specs.Text.{isNumber, numberOf}
+use Rattle.strlib.specs.Pointer.{storeFits, characters}
+use Rattle.strlib.specs.Quoted.{bytes}
+use Rattle.strlib.specs.Refusal.{Outcome, refused, gives, first, outcome}
+use Rattle.words.specs.Words.{words, same}
+use Rattle.desk.specs.declared.cue.Cue.{Cue}
+use Rattle.desk.specs.declared.cue.CueAnswer.{CueAnswer}
+use Rattle.desk.specs.declared.cue.CueAnswer.the-variants.{Cue as Given, Refused}
+
+-- the paper's value for each case of the answer
+abbrev pub cueAnswered : CueAnswer → Outcome Cue
+cueAnswered (Given c) = gives c
+cueAnswered (Refused n) = refused n
+
+-- word k of a line, counted from 1; the empty text where there is none
+abbrev pub word : List ℕ → ℕ → List ℕ
+word line k = getD (words line) (k - 1) []
+
+-- seven words, the fixed ones in their places
+unfoldable pub formed : List ℕ → Bool
+formed line =
+    eqb (length (words line)) 7
+    && ((same (word line 1) (bytes "MIC") && same (word line 3) (bytes "TO")) && (same (word line 4) (bytes "LSP") && same (word line 6) (bytes "GAIN")))
+
+-- the three numbers, in base 10
+abbrev pub micWord : List ℕ → List ℕ
+micWord line = word line 2
+
+abbrev pub lspWord : List ℕ → List ℕ
+lspWord line = word line 5
+
+abbrev pub gainWord : List ℕ → List ℕ
+gainWord line = word line 7
+
+-- a matrix size is 1 to the most
+unfoldable pub isSize : ℕ → ℕ → Bool
+isSize most n = leb 1 n && leb n most
+
+-- a microphone or loudspeaker of the matrix is 1 to its size
+unfoldable pub isIndex : ℕ → ℤ → Bool
+isIndex size z = leZ (pos 1) z && leZ z (pos size)
+
+-- a gain is −960 to 120 tenths of a decibel (`negsuc n` is −(n + 1))
+unfoldable pub isGain : ℤ → Bool
+isGain z = leZ (negsuc 959) z && leZ z (pos 120)
+
+-- the checks of a cue line, in their order: 3 and 2 as in every call, 11, then 7 or 8 of the numbers from left to right, then 12
+abbrev pub cueChecks : List ℕ → ℕ → ℕ → List (ℕ × Bool)
+cueChecks line mics lsps =
+    (3, storeFits line) ∷ (3, isSize 64 mics) ∷ (3, isSize 128 lsps)
+    ∷ (2, characters line)
+    ∷ (11, leb (length line) 80) ∷ (11, formed line)
+    ∷ (7, isNumber 10 (micWord line)) ∷ (8, inRange (numberOf 10 (micWord line)))
+    ∷ (7, isNumber 10 (lspWord line)) ∷ (8, inRange (numberOf 10 (lspWord line)))
+    ∷ (7, isNumber 10 (gainWord line)) ∷ (8, inRange (numberOf 10 (gainWord line)))
+    ∷ (12, isIndex mics (numberOf 10 (micWord line)))
+    ∷ (12, isIndex lsps (numberOf 10 (lspWord line)))
+    ∷ (12, isGain (numberOf 10 (gainWord line))) ∷ []
+
+-- its refusal, 0 for none
+unfoldable pub cueRefusal : List ℕ → ℕ → ℕ → ℕ
+cueRefusal line mics lsps = first (cueChecks line mics lsps)
+
+-- the cue of three numbers
+unfoldable pub cueOf : ℤ → ℤ → ℤ → Cue
+cueOf n m g = record { microphone = natAbs n; loudspeaker = natAbs m; gain = g }
+
+-- its answer
+unfoldable pub cueRule : List ℕ → ℕ → ℕ → Outcome Cue
+cueRule line mics lsps =
+    outcome (cueRefusal line mics lsps) (cueOf (numberOf 10 (micWord line)) (numberOf 10 (lspWord line)) (numberOf 10 (gainWord line)))

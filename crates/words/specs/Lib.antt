@@ -1,0 +1,4 @@
+pub mod Ends
+pub mod Words
+pub mod Lines
+pub mod Examples

@@ -25,8 +25,8 @@ use Rattle.words.specs.Words.{pointerOf}
 use Rattle.words.specs.declared.Piece.{Piece}
 use Rattle.desk.specs.Cue.{cueRefusal, cueRule}
 use Rattle.desk.specs.declared.cue.Cue.{Cue}
-use Rattle.answers.proofs.Growing.{grow-start, grow-more, take-twice}
-use Rattle.answers.specs.Buffer.{Grown}
+use Rattle.buffer.proofs.Growing.{grow-start, grow-more, take-twice}
+use Rattle.buffer.specs.Buffer.{Grown}
 use Rattle.answers.specs.Text.{answerText, totalText}
 use Rattle.answers.specs.Program.{counted, goodOf, answersText, goods, totals, ended, left, lastOf, endText, anew, Fed}
 use Rattle.answers.specs.Inner.{Answered, Ready, endedBy, leftBy}

@@ -1,4 +1,3 @@
-pub mod Growing
 pub mod Putting
 pub mod Feeding
 pub mod Fitting

@@ -11,10 +11,10 @@ use lib.ListN.{length, take, length-append}
 use lib.Seq.{append-snoc, take-take, take-all}
 use Rattle.words.specs.Ends.{upTo}
 use Rattle.words.specs.Lines.{linesIn, lines}
-use Rattle.answers.proofs.Growing.{grown-whole}
+use Rattle.buffer.proofs.Growing.{grown-whole}
 use Rattle.answers.proofs.Feeding.{cue-alike, count-again, count-fixed, answers-counted, answers-append, goods-append, ended-append, left-append, Alike, alike}
 use Rattle.answers.proofs.Fitting.{piece-fits, end-fits, heading-fits}
-use Rattle.answers.specs.Buffer.{Grown}
+use Rattle.buffer.specs.Buffer.{Grown}
 use Rattle.answers.specs.Text.{heading}
 use Rattle.answers.specs.Program.{counted, answersText, goods, totals, programText, ended, left, lastOf, endText, anew, Fed}
 use Rattle.answers.specs.Run.{Turn, Turns, lastState, lastHold, input, output, start, Run, RunWrites}

@@ -7,7 +7,7 @@ use lib.ListN.{length}
 use Rattle.number.specs.Limits.{inRange}
 use Rattle.strlib.specs.Refusal.{Outcome, refused, gives}
 use Rattle.desk.specs.declared.cue.Cue.{Cue}
-use Rattle.answers.specs.Buffer.{Grown}
+use Rattle.buffer.specs.Buffer.{Grown}
 use Rattle.answers.specs.Text.{answerText}
 use Rattle.answers.specs.Program.{counted, goodOf}
 use Rattle.answers.specs.declared.program.State.{State}

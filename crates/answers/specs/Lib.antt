@@ -1,4 +1,3 @@
-pub mod Buffer
 pub mod Text
 pub mod Program
 pub mod Inner

@@ -9,7 +9,7 @@ use Rattle.strlib.specs.Refusal.{Outcome, refused, gives}
 use Rattle.words.specs.Lines.{lines}
 use Rattle.desk.specs.Cue.{cueRule}
 use Rattle.desk.specs.declared.cue.Cue.{Cue}
-use Rattle.answers.specs.Buffer.{Grown}
+use Rattle.buffer.specs.Buffer.{Grown}
 use Rattle.answers.specs.Text.{heading, answerText, totalText}
 use Rattle.answers.specs.declared.program.State.{State}
 

@@ -3,7 +3,7 @@ use Prim.Native.Nat.{ℕ, _*_, _≤_}
 use mathlib.Core.Path.{_≡_}
 use mathlib.Core.List.{List, [], _∷_, _++_}
 use lib.ListN.{length, take}
-use Rattle.answers.specs.Buffer.{Grown}
+use Rattle.buffer.specs.Buffer.{Grown}
 use Rattle.answers.specs.Text.{heading}
 use Rattle.answers.specs.Program.{ended, left, endText, anew, Fed, programText}
 use Rattle.answers.specs.declared.program.State.{State}

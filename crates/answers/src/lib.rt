@@ -1,8 +1,6 @@
 // The answers to cue lines that come in pieces: the program without its reading and writing.
-mod buffer;
 mod program;
 
-pub use buffer::front;
 pub use program::State;
 pub use program::begin;
 pub use program::feed;

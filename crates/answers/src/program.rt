@@ -1,5 +1,4 @@
 // The program's answers, line by line, however the input is cut into pieces.
-use super::buffer;
 use desk::Cue;
 use desk::CueAnswer;
 ghost use mathlib.Core.Path.{_≡_};
@@ -10,7 +9,7 @@ ghost use lib.ListN.{length, take};
 ghost use Rattle.number.specs.Limits.{inRange};
 ghost use Rattle.number.specs.Written.{written};
 ghost use Rattle.desk.specs.Cue.{cueAnswered, cueRule};
-ghost use Rattle.answers.specs.Buffer.{Grown};
+ghost use Rattle.buffer.specs.Buffer.{Grown};
 ghost use Rattle.answers.specs.Text.{heading, okText, cueText, answerText, totalText};
 ghost use Rattle.answers.specs.Program.{counted, goodOf, ended, left, endText, Fed, anew};
 ghost use Rattle.answers.specs.Inner.{writable, Answered, Ready, endedBy, leftBy};

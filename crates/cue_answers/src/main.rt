@@ -4,7 +4,7 @@ use answers::State;
 // Answers a piece of the input. The buffer `out` has 152 bytes for each byte of it, so that no answer is cut off.
 fn turn(part: &[u8], hold: &mut [u8; 65537], out: &mut [u8], s: State) -> State {
     let t = answers::feed(part, hold, out, s);
-    io::write_all(1, answers::front(out, t.out));
+    io::write_all(1, buffer::front(out, t.out));
     t
 }
 
@@ -23,7 +23,7 @@ fn all_turns(piece: &mut [u8], hold: &mut [u8; 65537], out: &mut [u8]) -> State 
         if n == 0 {
             return s;
         }
-        s = turn(answers::front(piece, n), hold, out, s);
+        s = turn(buffer::front(piece, n), hold, out, s);
         turns -= 1;
     }
     s
@@ -34,8 +34,8 @@ fn main() {
     let mut hold = [0u8; 65537];
     let mut out = [0u8; 630000];
     let n = answers::begin(&mut out);
-    io::write_all(1, answers::front(&out, n));
+    io::write_all(1, buffer::front(&out, n));
     let s = all_turns(&mut piece, &mut hold, &mut out);
     let n = answers::finish(&hold, &mut out, s);
-    io::write_all(1, answers::front(&out, n));
+    io::write_all(1, buffer::front(&out, n));
 }

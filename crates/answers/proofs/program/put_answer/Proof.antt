@@ -1,6 +1,6 @@
 use borrow.Author.Needs.{needs}
 use Rattle.answers.specs.Text.{answerText}
-use Rattle.answers.proofs.Growing.{grow-more}
+use Rattle.buffer.proofs.Growing.{grow-more}
 use Rattle.answers.proofs.program.put_answer.Statement.{statement}
 use Rattle.answers.proofs.program.put_answer.Tie as tie
 

@@ -1,7 +1,7 @@
 use borrow.Author.Needs.{needs}
-use Rattle.answers.proofs.Growing.{grow-more}
-use Rattle.answers.proofs.buffer.append_both.Statement.{statement}
-use Rattle.answers.proofs.buffer.append_both.Tie as tie
+use Rattle.buffer.proofs.Growing.{grow-more}
+use Rattle.buffer.proofs.append_both.Statement.{statement}
+use Rattle.buffer.proofs.append_both.Tie as tie
 
 pub append-both-spec : {M : Type 1} → statement M
 append-both-spec =

@@ -8,7 +8,7 @@ use borrow.Author.Needs.{needs}
 use lib.ListN.{length, getD, set, take, drop, length-take, length-append, length-set, take-append-drop}
 use lib.Seq.{take-all, take-suc, take-suc-set, take-append-le}
 use Rattle.strlib.proofs.Pointing.{either}
-use Rattle.answers.specs.Buffer.{Grown}
+use Rattle.buffer.specs.Buffer.{Grown}
 
 pub front-is : (s : List ℕ) (n e : ℕ) → e ≡ min n (length s) → take e s ≡ take n s
 front-is s n e q =

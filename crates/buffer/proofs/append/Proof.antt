@@ -1,9 +1,9 @@
 use Prim.Native.Nat.{_≤_, _-_}
 use lib.ListN.{length, take}
-use Rattle.answers.specs.Buffer.{Grown}
-use Rattle.answers.proofs.Growing.{grow-laws}
-use Rattle.answers.proofs.buffer.append.Statement.{statement}
-use Rattle.answers.proofs.buffer.append.Tie as tie
+use Rattle.buffer.specs.Buffer.{Grown}
+use Rattle.buffer.proofs.Growing.{grow-laws}
+use Rattle.buffer.proofs.append.Statement.{statement}
+use Rattle.buffer.proofs.append.Tie as tie
 
 abbrev Inv-loop : tie.InvT-loop
 Inv-loop buffer₀ n text at₀ i₀ buffer at i = (i ≤ length text) × Grown buffer₀ n buffer at (take i text)

@@ -1,8 +1,8 @@
 use borrow.Author.Needs.{needs}
-use Rattle.answers.proofs.Growing.{grow-is}
-use Rattle.answers.proofs.Putting.{decimal-is}
-use Rattle.answers.proofs.buffer.append_number.Statement.{statement}
-use Rattle.answers.proofs.buffer.append_number.Tie as tie
+use Rattle.buffer.proofs.Growing.{grow-is}
+use Rattle.buffer.proofs.Decimal.{decimal-is}
+use Rattle.buffer.proofs.append_number.Statement.{statement}
+use Rattle.buffer.proofs.append_number.Tie as tie
 
 pub append-number-spec : {M : Type 1} → statement M
 append-number-spec =

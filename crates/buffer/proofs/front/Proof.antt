@@ -1,7 +1,7 @@
 use borrow.Author.Needs.{needs}
-use Rattle.answers.proofs.Growing.{front-is, front-length}
-use Rattle.answers.proofs.buffer.front.Statement.{statement}
-use Rattle.answers.proofs.buffer.front.Tie as tie
+use Rattle.buffer.proofs.Growing.{front-is, front-length}
+use Rattle.buffer.proofs.front.Statement.{statement}
+use Rattle.buffer.proofs.front.Tie as tie
 
 pub front-spec : {M : Type 1} → statement M
 front-spec =

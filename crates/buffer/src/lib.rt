@@ -4,7 +4,7 @@ ghost use mathlib.Core.Path.{_≡_};
 ghost use Prim.Native.Nat.{min};
 ghost use lib.ListN.{take};
 ghost use Rattle.number.specs.Written.{digits};
-ghost use Rattle.answers.specs.Buffer.{Grown};
+ghost use Rattle.buffer.specs.Buffer.{Grown};
 
 fn least(a: usize, b: usize) -> usize
     ensures { λ r. ⌜ r ≡ min a b ⌝ }

@@ -32,9 +32,17 @@ fn say_sign(sign: i8) {
     say(b" 0");
 }
 
-fn say_compared(name: &[u8], r: Compared) {
+fn show(
+    name: &[u8],
+    store: &[u8],
+    string1: StrPtr,
+    string2: StrPtr,
+    code: usize,
+    style: usize,
+    translation: i64,
+) {
     say(name);
-    match r {
+    match compare::compare(store, string1, string2, code, style, translation) {
         Compared::Answer(c) => {
             say_yes(c.yes);
             say_sign(c.sign);
@@ -50,86 +58,67 @@ pub(crate) fn section_3_1() {
     let istr = StrPtr::full(0, 5);
     let astr = StrPtr::full(5, 5);
     let dstr = StrPtr::full(10, 10);
-    say_compared(
-        b"3.1  eqlstr",
-        compare::compare(store, istr, astr, EQUAL, PADDED, 0),
-    );
-    say_compared(
-        b"3.1  lesstr",
-        compare::compare(store, istr, astr, LESS, PADDED, 0),
-    );
-    say_compared(
+    show(b"3.1  eqlstr", store, istr, astr, EQUAL, PADDED, 0);
+    show(b"3.1  lesstr", store, istr, astr, LESS, PADDED, 0);
+    show(
         b"3.1  geqstr",
-        compare::compare(store, istr, dstr, GREATER_OR_EQUAL, PADDED, 0),
+        store,
+        istr,
+        dstr,
+        GREATER_OR_EQUAL,
+        PADDED,
+        0,
     );
 }
 
-// In translated calls the manual means capitals: the code of its "a" is octal 101.
-pub(crate) fn section_5_1() {
-    let store = b"abcdexyz  abc  ABCDE12345ABCD01234 ";
+// The three styles.
+fn styles() {
+    let store = b"abcdexyz  abc  ";
     let abcde = StrPtr::full(0, 5);
     let xyz = StrPtr::full(5, 5);
     let abc = StrPtr::full(10, 5);
     let np_abc = StrPtr::full(10, 3);
-    let capitals = StrPtr::full(15, 5);
-    let digits = StrPtr::full(20, 5);
-    let capitals0 = StrPtr::full(25, 5);
-    let digits_blank = StrPtr::full(30, 5);
-    let digits4 = StrPtr::full(30, 4);
-    say_compared(
-        b"5.1  100",
-        compare::compare(store, abcde, xyz, LESS, PADDED, 0),
-    );
-    say_compared(
-        b"5.1  200",
-        compare::compare(store, xyz, abcde, LESS, PADDED, 0),
-    );
-    say_compared(
-        b"5.1  300",
-        compare::compare(store, abcde, abc, EQUAL, IGNORE, 0),
-    );
-    say_compared(
-        b"5.1  400",
-        compare::compare(store, abcde, abc, GREATER, IGNORE, 0),
-    );
-    say_compared(
-        b"5.1  500",
-        compare::compare(store, abcde, np_abc, EQUAL, IGNORE, 0),
-    );
-    say_compared(
-        b"5.1  600",
-        compare::compare(store, abcde, np_abc, GREATER, IGNORE, 0),
-    );
-    say_compared(
-        b"5.1  700",
-        compare::compare(store, np_abc, abc, EQUAL, EXACT, 0),
-    );
-    say_compared(
-        b"5.1  800",
-        compare::compare(store, np_abc, abc, LESS, EXACT, 0),
-    );
-    say_compared(
-        b"5.1  900",
-        compare::compare(store, np_abc, abc, EQUAL, PADDED, 0),
-    );
-    say_compared(
-        b"5.1 1000",
-        compare::compare(store, np_abc, abc, EQUAL, EXACT, 0),
-    );
-    say_compared(
-        b"5.1 1100",
-        compare::compare(store, capitals, digits, EQUAL, PADDED, 16),
-    );
-    say_compared(
-        b"5.1 1200",
-        compare::compare(store, digits, capitals, EQUAL, PADDED, -16),
-    );
-    say_compared(
+    show(b"5.1  100", store, abcde, xyz, LESS, PADDED, 0);
+    show(b"5.1  200", store, xyz, abcde, LESS, PADDED, 0);
+    show(b"5.1  300", store, abcde, abc, EQUAL, IGNORE, 0);
+    show(b"5.1  400", store, abcde, abc, GREATER, IGNORE, 0);
+    show(b"5.1  500", store, abcde, np_abc, EQUAL, IGNORE, 0);
+    show(b"5.1  600", store, abcde, np_abc, GREATER, IGNORE, 0);
+    show(b"5.1  700", store, np_abc, abc, EQUAL, EXACT, 0);
+    show(b"5.1  800", store, np_abc, abc, LESS, EXACT, 0);
+    show(b"5.1  900", store, np_abc, abc, EQUAL, PADDED, 0);
+    show(b"5.1 1000", store, np_abc, abc, EQUAL, EXACT, 0);
+}
+
+// The manual means capitals: it gives octal 101 as the code of "a".
+fn translations() {
+    let store = b"ABCDE12345ABCD01234 ";
+    let abcde = StrPtr::full(0, 5);
+    let s12345 = StrPtr::full(5, 5);
+    let abcd0 = StrPtr::full(10, 5);
+    show(b"5.1 1100", store, abcde, s12345, EQUAL, PADDED, 16);
+    show(b"5.1 1200", store, s12345, abcde, EQUAL, PADDED, -16);
+    show(
         b"5.1 1300",
-        compare::compare(store, capitals0, digits_blank, EQUAL, PADDED, 16),
+        store,
+        abcd0,
+        StrPtr::full(15, 5),
+        EQUAL,
+        PADDED,
+        16,
     );
-    say_compared(
+    show(
         b"5.1 1400 (manual: no, its pad is not translated)",
-        compare::compare(store, capitals0, digits4, EQUAL, PADDED, 16),
+        store,
+        abcd0,
+        StrPtr::full(15, 4),
+        EQUAL,
+        PADDED,
+        16,
     );
+}
+
+pub(crate) fn section_5_1() {
+    styles();
+    translations();
 }

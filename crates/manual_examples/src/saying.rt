@@ -35,19 +35,25 @@ pub(crate) fn say_string(store: &[u8], p: StrPtr) {
     say_number(p.maximum);
 }
 
-// A line for a call that gives a string.
-pub(crate) fn say_answer(name: &[u8], store: &[u8], r: StrAnswer) {
+// A line for a string.
+pub(crate) fn show(name: &[u8], store: &[u8], p: StrPtr) {
     say(name);
+    say_string(store, p);
+    say(b"\n");
+}
+
+// A line for a call that gives a string or refuses.
+pub(crate) fn show_answer(name: &[u8], store: &[u8], r: StrAnswer) {
     match r {
-        StrAnswer::Given(p) => {
-            say_string(store, p);
-            say(b"\n");
+        StrAnswer::Given(p) => show(name, store, p),
+        StrAnswer::Refused(n) => {
+            say(name);
+            say_refused(n);
         }
-        StrAnswer::Refused(n) => say_refused(n),
     }
 }
 
-// The string that a call gave, to go on with. A refusal gives the null string, which the lines that follow show.
+// The string that a call gave, to go on with; the null string where it refused.
 pub(crate) fn given(r: StrAnswer) -> StrPtr {
     match r {
         StrAnswer::Given(p) => p,

@@ -1,10 +1,11 @@
 // 3.4 and 5.3, the routines which search strings.
-use super::saying::given;
 use super::saying::say;
-use super::saying::say_answer;
 use super::saying::say_number;
 use super::saying::say_refused;
 use super::saying::say_string;
+use super::saying::show;
+use super::substrings::between;
+use search::Match;
 use search::SearchAnswer;
 use search::SplitAnswer;
 use strlib::StrList;
@@ -12,34 +13,92 @@ use strlib::StrPtr;
 
 // A list of three; those past the count are ignored.
 fn list_of(a: StrPtr, b: StrPtr, c: StrPtr) -> StrList {
-    let mut list = [StrPtr::full(0, 0); 32];
+    let mut list = [c; 32];
     list[0] = a;
     list[1] = b;
-    list[2] = c;
     list
 }
 
 // The number of the string found, and before, match and after.
-fn say_search(name: &[u8], store: &[u8], r: SearchAnswer) {
+fn say_match(store: &[u8], m: Match) {
+    say_number(m.number);
+    say(b" before");
+    say_string(store, m.before);
+    say(b", match");
+    say_string(store, m.matched);
+    say(b", after");
+    say_string(store, m.after);
+    say(b"\n");
+}
+
+// One search of digits, at the front of the store, gives what befstr, whistr, aftstr and allstr give.
+fn search(name: &[u8], store: &[u8], a: StrPtr, b: StrPtr, c: StrPtr, count: usize) {
     say(name);
-    match r {
-        SearchAnswer::Found(m) => {
-            say_number(m.number);
-            say(b" before");
-            say_string(store, m.before);
-            say(b", match");
-            say_string(store, m.matched);
-            say(b", after");
-            say_string(store, m.after);
-            say(b"\n");
-        }
+    match search::search(store, StrPtr::full(0, 10), list_of(a, b, c), count) {
+        SearchAnswer::Found(m) => say_match(store, m),
         SearchAnswer::Nothing => say(b" nothing\n"),
         SearchAnswer::Refused(n) => say_refused(n),
     }
 }
 
-// The number of the string found, and the host in two.
-fn say_split(name: &[u8], store: &[u8], r: SplitAnswer) {
+fn parts_one_and_two(store: &[u8], null: StrPtr) {
+    let s34567 = StrPtr::full(10, 5);
+    let s56789 = StrPtr::full(15, 5);
+    let l2 = StrPtr::full(35, 2);
+    let l3 = StrPtr::full(37, 2);
+    search(
+        b"3.4  search-routine",
+        store,
+        s56789,
+        StrPtr::full(20, 5),
+        null,
+        2,
+    );
+    search(b"3.4  part 1 sp1 to sp6", store, s34567, null, null, 1);
+    search(b"3.4  part 2 sp1", store, s56789, l2, l3, 3);
+    search(b"3.4  part 2 sp2", store, l3, l2, s56789, 3);
+    search(
+        b"3.4  part 2 sp3",
+        store,
+        StrPtr::full(25, 5),
+        null,
+        null,
+        1,
+    );
+    search(
+        b"3.4  part 2 sp4",
+        store,
+        StrPtr::full(30, 5),
+        null,
+        null,
+        1,
+    );
+    search(b"3.4  part 2 sp5", store, l2, s34567, null, 2);
+    search(b"3.4  part 2 sp6", store, s34567, l2, null, 2);
+}
+
+fn part_three(store: &[u8], null: StrPtr) {
+    search(b"3.4  part 3 sp1 to sp3", store, null, null, null, 1);
+    search(
+        b"3.4  part 3 sp4 to sp6",
+        store,
+        StrPtr::full(20, 5),
+        null,
+        null,
+        2,
+    );
+    search(
+        b"3.4  part 3 sp7 to sp9",
+        store,
+        StrPtr::full(37, 5),
+        null,
+        null,
+        2,
+    );
+}
+
+// allstr with one of its pointers 0: the number of the string found, and the host in two.
+fn show_split(name: &[u8], store: &[u8], r: SplitAnswer) {
     say(name);
     match r {
         SplitAnswer::Found(s) => {
@@ -54,56 +113,17 @@ fn say_split(name: &[u8], store: &[u8], r: SplitAnswer) {
     }
 }
 
-// One search of digits, at the front of the store, gives what befstr, whistr, aftstr and allstr give.
-fn show(name: &[u8], store: &[u8], a: StrPtr, b: StrPtr, c: StrPtr, count: usize) {
-    let digits = StrPtr::full(0, 10);
-    let list = list_of(a, b, c);
-    say_search(name, store, search::search(store, digits, list, count));
-}
-
-fn parts_one_and_two(store: &[u8], null: StrPtr) {
-    let s34567 = StrPtr::full(10, 5);
-    let s56789 = StrPtr::full(15, 5);
-    let s01234 = StrPtr::full(20, 5);
-    let abcde = StrPtr::full(25, 5);
-    let s012 = StrPtr::full(30, 5);
-    let l2 = StrPtr::full(35, 2);
-    let l3 = StrPtr::full(37, 2);
-    show(b"3.4  search-routine", store, s56789, s01234, null, 2);
-    show(b"3.4  part 1 sp1 to sp6", store, s34567, null, null, 1);
-    show(b"3.4  part 2 sp1", store, s56789, l2, l3, 3);
-    show(b"3.4  part 2 sp2", store, l3, l2, s56789, 3);
-    show(b"3.4  part 2 sp3", store, abcde, null, null, 1);
-    show(b"3.4  part 2 sp4", store, s012, null, null, 1);
-    show(b"3.4  part 2 sp5", store, l2, s34567, null, 2);
-    show(b"3.4  part 2 sp6", store, s34567, l2, null, 2);
-}
-
-fn part_three(store: &[u8], null: StrPtr) {
-    let s01234 = StrPtr::full(20, 5);
-    let s23456 = StrPtr::full(37, 5);
-    show(b"3.4  part 3 sp1 to sp3", store, null, null, null, 1);
-    show(b"3.4  part 3 sp4 to sp6", store, s01234, null, null, 2);
-    show(b"3.4  part 3 sp7 to sp9", store, s23456, null, null, 2);
-}
-
-// allstr with one of its pointers 0: the host cut in two.
 fn part_four(store: &[u8], null: StrPtr) {
     let digits = StrPtr::full(0, 10);
     let l2 = list_of(StrPtr::full(35, 2), null, null);
+    let r = search::search_match_after(store, digits, l2, 1);
+    show_split(b"3.4  part 4 sp2, sp1 (manual: sp2 is '12')", store, r);
     let l3 = list_of(StrPtr::full(37, 2), null, null);
-    say_split(
-        b"3.4  part 4 sp2, sp1 (manual: sp2 is '12')",
-        store,
-        search::search_match_after(store, digits, l2, 1),
-    );
-    say_split(
-        b"3.4  part 4 sp3, sp4 (manual: sp3 is '123')",
-        store,
-        search::search_before_match(store, digits, l3, 1),
-    );
+    let r = search::search_before_match(store, digits, l3, 1);
+    show_split(b"3.4  part 4 sp3, sp4 (manual: sp3 is '123')", store, r);
 }
 
+// The host, then the literals '34567', '56789', '01234', 'abcde' and '012', then '34' (l2) and '23456' with '23' (l3) at its front.
 pub(crate) fn section_3_4() {
     let store = b"0123456789345675678901234abcde012  3423456";
     let null = StrPtr::full(42, 0);
@@ -112,90 +132,84 @@ pub(crate) fn section_3_4() {
     part_four(store, null);
 }
 
-// The hosts of 5.3 start at 1 in their stores, so that the start of a part is its position in the host.
-fn position_of(r: SearchAnswer) -> usize {
-    match r {
-        SearchAnswer::Found(m) => {
-            let p = m.matched;
-            p.start
+// The match of a search for one or two strings; null strings at 0 where nothing is found.
+fn find(store: &[u8], host: StrPtr, a: StrPtr, b: StrPtr, count: usize) -> Match {
+    match search::search(store, host, list_of(a, b, b), count) {
+        SearchAnswer::Found(m) => m,
+        _ => {
+            let null = StrPtr::full(0, 0);
+            Match {
+                number: 0,
+                before: null,
+                matched: null,
+                after: null,
+            }
         }
-        _ => 0,
-    }
-}
-
-fn end_of(r: SearchAnswer) -> usize {
-    match r {
-        SearchAnswer::Found(m) => {
-            let p = m.after;
-            p.start
-        }
-        _ => 0,
-    }
-}
-
-fn number_of(r: SearchAnswer) -> usize {
-    match r {
-        SearchAnswer::Found(m) => m.number,
-        _ => 0,
-    }
-}
-
-fn length_of(r: SearchAnswer) -> usize {
-    match r {
-        SearchAnswer::Found(m) => {
-            let p = m.matched;
-            p.length
-        }
-        _ => 0,
     }
 }
 
 // r0 and r1 of fndstr.
-fn say_found(name: &[u8], r0: usize, r1: usize) {
+fn show_two(name: &[u8], r0: usize, r1: usize) {
     say(name);
     say_number(r0);
     say_number(r1);
     say(b"\n");
 }
 
-// Part one: the position, and the number of the string (which) or the length of the match.
+// Part one: the position, and the number of the string (which) or the length of the match. The hosts of 5.3 start at 1 in their stores,
+// so that the start of a part is its position in the host.
 fn which_or_length() {
     let store = b" 0123456789345  123";
-    let digits = StrPtr::full(1, 10);
-    let list = list_of(StrPtr::full(11, 5), StrPtr::full(16, 3), digits);
-    let r = search::search(store, digits, list, 2);
-    say_found(b"5.3  multip+which", position_of(r), number_of(r));
-    say_found(b"5.3  multip", position_of(r), length_of(r));
-    let store = b" file.ext  .[";
-    let filnam = StrPtr::full(1, 10);
-    let list = list_of(StrPtr::full(11, 1), StrPtr::full(12, 1), filnam);
-    let part = given(cutting::between(store, filnam, 2, 8));
-    let r = search::search(store, part, list, 2);
-    say_found(b"5.3  ccext", position_of(r), number_of(r));
+    let m = find(
+        store,
+        StrPtr::full(1, 10),
+        StrPtr::full(11, 5),
+        StrPtr::full(16, 3),
+        2,
+    );
+    let p = m.matched;
+    show_two(b"5.3  multip+which", p.start, m.number);
+    show_two(b"5.3  multip", p.start, p.length);
 }
 
-// Part two; to anchor a string of one character is to search the part.
+fn extension() {
+    let store = b" file.ext  .[";
+    let part = between(store, StrPtr::full(1, 10), 2, 8);
+    let m = find(store, part, StrPtr::full(11, 1), StrPtr::full(12, 1), 2);
+    let p = m.matched;
+    show_two(b"5.3  ccext", p.start, m.number);
+}
+
+// Part two: the end of ':' and the start of '['. To anchor a string of one character is to search the part.
 fn stepped() {
     let store = b" d:f.x[1,2]:[";
     let filspc = StrPtr::full(1, 10);
-    let colon = list_of(StrPtr::full(11, 1), filspc, filspc);
-    let bracket = list_of(StrPtr::full(12, 1), filspc, filspc);
-    let part = given(cutting::between(store, filspc, 2, 8));
-    let r = search::search(store, part, colon, 1);
-    let hasdev = end_of(r);
-    say_found(b"5.3  hasdev", hasdev, length_of(r));
-    let part = given(cutting::between(store, filspc, hasdev, 0));
-    let r = search::search(store, part, bracket, 1);
-    let hasppn = position_of(r);
-    say_found(b"5.3  hasppn", hasppn, length_of(r));
-    say_answer(
+    let colon = StrPtr::full(11, 1);
+    let m = find(store, between(store, filspc, 2, 8), colon, colon, 1);
+    let p = m.matched;
+    let after = m.after;
+    let hasdev = after.start;
+    show_two(b"5.3  hasdev", hasdev, p.length);
+    let bracket = StrPtr::full(12, 1);
+    let m = find(
+        store,
+        between(store, filspc, hasdev, 0),
+        bracket,
+        bracket,
+        1,
+    );
+    let p = m.matched;
+    let hasppn = p.start;
+    show_two(b"5.3  hasppn", hasppn, p.length);
+    show(
         b"5.3  file name",
         store,
-        cutting::between(store, filspc, hasdev, hasppn),
+        between(store, filspc, hasdev, hasppn),
     );
 }
 
 pub(crate) fn section_5_3() {
     which_or_length();
+    extension();
     stepped();
 }

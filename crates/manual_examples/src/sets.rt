@@ -1,40 +1,44 @@
 // 5.4, character-searching. The strings put into tables are taken without a literal's padding: it would put blank into table 1 and take it
 // out of table 4, in which befchr is to find it.
-use super::saying::given;
 use super::saying::say;
-use super::saying::say_answer;
 use super::saying::say_number;
-use super::saying::say_refused;
+use super::saying::show;
+use super::substrings::between;
+use super::substrings::relative;
 use charset::CharAnswer;
+use charset::CharAt;
 use strlib::StrPtr;
 
-// The position of the character found; 0 for nothing, as fndchr has it.
-fn position_of(r: CharAnswer) -> usize {
+// The character found, or position 0 and code 0, as fndchr has it.
+fn character_of(r: CharAnswer) -> CharAt {
     match r {
-        CharAnswer::Found(c) => c.position,
-        _ => 0,
+        CharAnswer::Found(c) => c,
+        _ => CharAt {
+            position: 0,
+            code: 0,
+        },
     }
 }
 
-fn say_character(name: &[u8], r: CharAnswer) {
-    say(name);
-    match r {
-        CharAnswer::Found(c) => {
-            say_number(c.position);
-            say_number(c.code as usize);
-            say(b"\n");
-        }
-        CharAnswer::Nothing => say(b" nothing\n"),
-        CharAnswer::Refused(n) => say_refused(n),
-    }
+fn first(store: &[u8], host: StrPtr, block: &[u64], mask: u64) -> CharAt {
+    character_of(charset::find_first(store, host, block, mask))
 }
 
-// In which tables a character is: the sum of their masks.
-fn say_tables(name: &[u8], block: &[u64; 128], c: u8) {
+fn last(store: &[u8], host: StrPtr, block: &[u64], mask: u64) -> CharAt {
+    character_of(charset::find_last(store, host, block, mask))
+}
+
+fn show_character(name: &[u8], c: CharAt) {
     say(name);
-    if c < 128 {
-        say_number(block[c as usize] as usize);
-    }
+    say_number(c.position);
+    say_number(c.code as usize);
+    say(b"\n");
+}
+
+// The tables that a character is in: the sum of their masks.
+fn say_tables(name: &[u8], word: u64) {
+    say(name);
+    say_number(word as usize);
 }
 
 // All characters but those of the string: tabstr with one bit of its mask off.
@@ -47,6 +51,10 @@ fn fill_but(store: &[u8], string: StrPtr, block: &mut [u64], mask: u64) {
 fn two_tables(store: &[u8], block: &mut [u64; 128]) {
     charset::add_characters(store, StrPtr::full(0, 5), block, 1);
     fill_but(store, StrPtr::full(5, 1), block, 2);
+    say_tables(b"5.4  tables of a", block[97]);
+    say_tables(b", b", block[98]);
+    say_tables(b", blank", block[32]);
+    say(b"\n");
 }
 
 // Digits and signs in table 1, tab out of table 2, all but digits and signs in table 4.
@@ -58,65 +66,71 @@ fn three_tables(store: &[u8], block: &mut [u64; 128]) {
     fill_but(store, StrPtr::full(7, 12), block, 4);
 }
 
-// sp1 is what stands after the first character that is no blank, sp2 what stands in sp1 before the first that is no digit or sign.
+fn say_three_tables(block: &[u64; 128]) {
+    say_tables(b"5.4  tables of a", block[97]);
+    say_tables(b", digit", block[49]);
+    say_tables(b", plus", block[43]);
+    say_tables(b", point", block[46]);
+    say_tables(b", blank", block[32]);
+    say_tables(b", tab", block[9]);
+    say(b"\n");
+}
+
+// What stands in sp1 before the first character that is no digit or sign.
+fn before_other(name: &[u8], store: &[u8], sp1: StrPtr, block: &[u64]) {
+    let c = first(store, sp1, block, 4);
+    show(name, store, between(store, sp1, 1, c.position));
+}
+
+// sp1 is what stands after the first character that is no blank and no tab, or, as the manual's text has it, from that character on.
 fn stripped(block: &[u64; 128]) {
     let store = b" +73 24   ";
     let numlst = StrPtr::full(0, 10);
-    let at = position_of(charset::find_first(store, numlst, block, 2));
-    let sp1 = given(cutting::relative(store, numlst, at));
-    let end = position_of(charset::find_first(store, sp1, block, 4));
-    say_answer(
+    let c = first(store, numlst, block, 2);
+    let sp1 = relative(store, numlst, c.position);
+    before_other(
         b"5.4  sp2 (manual: '+73', but aftchr leaves the match out)",
         store,
-        cutting::between(store, sp1, 1, end),
+        sp1,
+        block,
     );
-    let sp1 = given(cutting::between(store, numlst, at, 0));
-    let end = position_of(charset::find_first(store, sp1, block, 4));
-    say_answer(
-        b"5.4  sp2 with the match",
-        store,
-        cutting::between(store, sp1, 1, end),
-    );
+    let sp1 = between(store, numlst, c.position, 0);
+    before_other(b"5.4  sp2 with the match", store, sp1, block);
 }
 
 // The innermost parentheses: from the last left one to the first right one after it. The host starts at 1 in the store, so that the start of
 // what stands after the right one is innrp.
-fn innermost(store: &[u8], expres: StrPtr, block: &[u64; 128]) {
-    let r = charset::find_last(store, expres, block, 8);
-    say_character(b"5.4  innlp", r);
-    let innlp = position_of(r);
-    let part = given(cutting::between(store, expres, innlp, 0));
-    let r = charset::find_first(store, part, block, 16);
-    let rest = given(cutting::relative(store, part, position_of(r)));
-    let innrp = rest.start;
+fn innermost(store: &[u8], expres: StrPtr, block: &[u64]) {
+    let left = last(store, expres, block, 8);
+    show_character(b"5.4  innlp", left);
+    let part = between(store, expres, left.position, 0);
+    let right = first(store, part, block, 16);
+    let rest = relative(store, part, right.position);
     say(b"5.4  innrp");
-    say_number(innrp);
+    say_number(rest.start);
     say(b"\n");
-    say_answer(
+    show(
         b"5.4  sp3",
         store,
-        cutting::between(store, expres, innlp, innrp),
+        between(store, expres, left.position, rest.start),
     );
 }
 
 // The first left parenthesis: the host cut before it, then asked of the first character alone.
-fn first_one(store: &[u8], expres: StrPtr, block: &[u64; 128]) {
-    let at = position_of(charset::find_first(store, expres, block, 8));
-    say_answer(
+fn first_left(store: &[u8], expres: StrPtr, block: &[u64]) {
+    let c = first(store, expres, block, 8);
+    show(
         b"5.4  allchr sp1 (manual: 'i+(j+k)-)', the match left out)",
         store,
-        cutting::between(store, expres, at, 0),
+        between(store, expres, c.position, 0),
     );
-    say_answer(
+    show(
         b"5.4  allchr sp2 (manual: '(', the match)",
         store,
-        cutting::between(store, expres, 1, at),
+        between(store, expres, 1, c.position),
     );
-    let part = given(cutting::between(store, expres, 1, 2));
-    say_character(
-        b"5.4  anchor (manual: 0)",
-        charset::find_first(store, part, block, 8),
-    );
+    let part = between(store, expres, 1, 2);
+    show_character(b"5.4  anchor (manual: 0)", first(store, part, block, 8));
 }
 
 fn parentheses(block: &mut [u64; 128]) {
@@ -125,31 +139,13 @@ fn parentheses(block: &mut [u64; 128]) {
     charset::add_characters(store, StrPtr::full(11, 1), block, 8);
     charset::add_characters(store, StrPtr::full(12, 1), block, 16);
     innermost(store, expres, block);
-    first_one(store, expres, block);
-}
-
-fn say_two_tables(block: &[u64; 128]) {
-    say_tables(b"5.4  tables of a", block, b'a');
-    say_tables(b", b", block, b'b');
-    say_tables(b", blank", block, b' ');
-    say(b"\n");
-}
-
-fn say_three_tables(block: &[u64; 128]) {
-    say_tables(b"5.4  tables of a", block, b'a');
-    say_tables(b", digit", block, b'1');
-    say_tables(b", plus", block, b'+');
-    say_tables(b", point", block, b'.');
-    say_tables(b", blank", block, b' ');
-    say_tables(b", tab", block, b'\t');
-    say(b"\n");
+    first_left(store, expres, block);
 }
 
 pub(crate) fn section_5_4() {
     let store = b"aeiou \t+-1234567890.-+";
     let mut block = [0u64; 128];
     two_tables(store, &mut block);
-    say_two_tables(&block);
     three_tables(store, &mut block);
     say_three_tables(&block);
     stripped(&block);

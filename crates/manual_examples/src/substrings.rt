@@ -1,18 +1,27 @@
-// 3.3, routines which return substrings.
-use super::saying::say_answer;
+// 3.3, routines which return substrings. The other sections cut by these functions too.
+use super::saying::given;
+use super::saying::show;
 use strlib::StrPtr;
+
+pub(crate) fn relative(store: &[u8], string: StrPtr, offset: usize) -> StrPtr {
+    given(cutting::relative(store, string, offset))
+}
+
+pub(crate) fn counted(store: &[u8], string: StrPtr, position: usize, count: usize) -> StrPtr {
+    given(cutting::counted(store, string, position, count))
+}
+
+pub(crate) fn between(store: &[u8], string: StrPtr, pos1: usize, pos2: usize) -> StrPtr {
+    given(cutting::between(store, string, pos1, pos2))
+}
 
 pub(crate) fn section_3_3() {
     let store = b"1122334455example";
     let digits = StrPtr::full(0, 10);
     let example = StrPtr::full(10, 7);
-    say_answer(
-        b"3.3  def 3.3",
-        store,
-        cutting::between(store, example, 2, 6),
-    );
-    say_answer(b"3.3  sp1", store, cutting::relative(store, digits, 2));
-    say_answer(b"3.3  sp2", store, cutting::counted(store, digits, 1, 6));
-    say_answer(b"3.3  sp3", store, cutting::between(store, digits, 7, 9));
-    say_answer(b"3.3  sp4", store, cutting::between(store, digits, 7, 0));
+    show(b"3.3  def 3.3", store, between(store, example, 2, 6));
+    show(b"3.3  sp1", store, relative(store, digits, 2));
+    show(b"3.3  sp2", store, counted(store, digits, 1, 6));
+    show(b"3.3  sp3", store, between(store, digits, 7, 9));
+    show(b"3.3  sp4", store, between(store, digits, 7, 0));
 }

@@ -1,4 +1,5 @@
 // 3.1 and 5.1, the comparative routines. A comparison is written as yes or no, the sign of the lengths, and the split.
+use super::saying::end_line;
 use super::saying::say;
 use super::saying::say_number;
 use super::saying::say_refused;
@@ -20,6 +21,17 @@ const EXACT: usize = 1;
 
 const IGNORE: usize = 2;
 
+// A statement number of three or four digits. The last call compares otherwise here than in the manual.
+fn say_statement(number: usize) {
+    if number < 1000 {
+        say(b" ");
+    }
+    say_number(number);
+    if number == 1400 {
+        say(b" (manual: no, its pad is not translated)");
+    }
+}
+
 fn say_sign(sign: i8) {
     if sign < 0 {
         say(b" -1");
@@ -32,8 +44,7 @@ fn say_sign(sign: i8) {
     say(b" 0");
 }
 
-fn show(
-    name: &[u8],
+fn compare(
     store: &[u8],
     string1: StrPtr,
     string2: StrPtr,
@@ -41,84 +52,84 @@ fn show(
     style: usize,
     translation: i64,
 ) {
-    say(name);
     match compare::compare(store, string1, string2, code, style, translation) {
         Compared::Answer(c) => {
             say_yes(c.yes);
             say_sign(c.sign);
             say_number(c.split);
-            say(b"\n");
+            end_line();
         }
         Compared::Refused(n) => say_refused(n),
     }
 }
 
-pub(crate) fn section_3_1() {
-    let store = b"aaa  bbb  aaa       ";
+// A comparison in padded style without a translation.
+fn padded(name: &[u8], store: &[u8], string1: StrPtr, string2: StrPtr, code: usize) {
+    say(name);
+    compare(store, string1, string2, code, PADDED, 0);
+}
+
+fn level_one(store: &[u8]) {
     let istr = StrPtr::full(0, 5);
     let astr = StrPtr::full(5, 5);
-    let dstr = StrPtr::full(10, 10);
-    show(b"3.1  eqlstr", store, istr, astr, EQUAL, PADDED, 0);
-    show(b"3.1  lesstr", store, istr, astr, LESS, PADDED, 0);
-    show(
+    padded(b"3.1  eqlstr", store, istr, astr, EQUAL);
+    padded(b"3.1  lesstr", store, istr, astr, LESS);
+    padded(
         b"3.1  geqstr",
         store,
         istr,
-        dstr,
+        StrPtr::full(10, 10),
         GREATER_OR_EQUAL,
-        PADDED,
-        0,
     );
 }
 
-// The three styles.
-fn styles() {
-    let store = b"abcdexyz  abc  ";
+pub(crate) fn section_3_1() {
+    level_one(b"aaa  bbb  aaa       ");
+}
+
+// The call at a statement number without a translation.
+fn call(number: usize, store: &[u8], string1: StrPtr, string2: StrPtr, code: usize, style: usize) {
+    say(b"5.1");
+    say_statement(number);
+    compare(store, string1, string2, code, style, 0);
+}
+
+// The call at a statement number, for equality of padded strings.
+fn translated(number: usize, store: &[u8], string1: StrPtr, string2: StrPtr, translation: i64) {
+    say(b"5.1");
+    say_statement(number);
+    compare(store, string1, string2, EQUAL, PADDED, translation);
+}
+
+fn styles(store: &[u8]) {
     let abcde = StrPtr::full(0, 5);
     let xyz = StrPtr::full(5, 5);
     let abc = StrPtr::full(10, 5);
     let np_abc = StrPtr::full(10, 3);
-    show(b"5.1  100", store, abcde, xyz, LESS, PADDED, 0);
-    show(b"5.1  200", store, xyz, abcde, LESS, PADDED, 0);
-    show(b"5.1  300", store, abcde, abc, EQUAL, IGNORE, 0);
-    show(b"5.1  400", store, abcde, abc, GREATER, IGNORE, 0);
-    show(b"5.1  500", store, abcde, np_abc, EQUAL, IGNORE, 0);
-    show(b"5.1  600", store, abcde, np_abc, GREATER, IGNORE, 0);
-    show(b"5.1  700", store, np_abc, abc, EQUAL, EXACT, 0);
-    show(b"5.1  800", store, np_abc, abc, LESS, EXACT, 0);
-    show(b"5.1  900", store, np_abc, abc, EQUAL, PADDED, 0);
-    show(b"5.1 1000", store, np_abc, abc, EQUAL, EXACT, 0);
+    call(100, store, abcde, xyz, LESS, PADDED);
+    call(200, store, xyz, abcde, LESS, PADDED);
+    call(300, store, abcde, abc, EQUAL, IGNORE);
+    call(400, store, abcde, abc, GREATER, IGNORE);
+    call(500, store, abcde, np_abc, EQUAL, IGNORE);
+    call(600, store, abcde, np_abc, GREATER, IGNORE);
+    call(700, store, np_abc, abc, EQUAL, EXACT);
+    call(800, store, np_abc, abc, LESS, EXACT);
+    call(900, store, np_abc, abc, EQUAL, PADDED);
+    call(1000, store, np_abc, abc, EQUAL, EXACT);
 }
 
 // The manual means capitals: it gives octal 101 as the code of "a".
-fn translations() {
-    let store = b"ABCDE12345ABCD01234 ";
+fn translations(store: &[u8]) {
     let abcde = StrPtr::full(0, 5);
     let s12345 = StrPtr::full(5, 5);
     let abcd0 = StrPtr::full(10, 5);
-    show(b"5.1 1100", store, abcde, s12345, EQUAL, PADDED, 16);
-    show(b"5.1 1200", store, s12345, abcde, EQUAL, PADDED, -16);
-    show(
-        b"5.1 1300",
-        store,
-        abcd0,
-        StrPtr::full(15, 5),
-        EQUAL,
-        PADDED,
-        16,
-    );
-    show(
-        b"5.1 1400 (manual: no, its pad is not translated)",
-        store,
-        abcd0,
-        StrPtr::full(15, 4),
-        EQUAL,
-        PADDED,
-        16,
-    );
+    translated(1100, store, abcde, s12345, 16);
+    translated(1200, store, s12345, abcde, -16);
+    translated(1300, store, abcd0, StrPtr::full(15, 5), 16);
+    translated(1400, store, abcd0, StrPtr::full(15, 4), 16);
 }
 
 pub(crate) fn section_5_1() {
-    styles();
-    translations();
+    styles(b"abcdexyz  abc  ");
+    translations(b"ABCDE12345ABCD01234 ");
 }

@@ -1,4 +1,5 @@
 // 3.0, 3.2 and 5.2, the copying routines.
+use super::saying::end_line;
 use super::saying::say;
 use super::saying::say_number;
 use super::saying::say_refused;
@@ -17,7 +18,7 @@ fn show_copied(name: &[u8], store: &[u8], r: CopyAnswer) -> StrPtr {
         CopyAnswer::Given(w) => {
             say_yes(w.completed);
             say_string(store, w.to);
-            say(b"\n");
+            end_line();
             w.to
         }
         CopyAnswer::Refused(n) => {
@@ -43,31 +44,30 @@ fn join(name: &[u8], store: &mut [u8], to: StrPtr, list: StrList, count: usize, 
 }
 
 // Two destinations, of 12 and of 20 characters.
-pub(crate) fn section_3_0() {
-    let mut store = *b"is 15 characs                                  ";
-    let source = StrPtr::full(0, 15);
-    copy(b"3.0  i1", &mut store, StrPtr::new(15, 0, 12), source);
-    copy(b"3.0  i2", &mut store, StrPtr::new(27, 0, 20), source);
+fn cut_or_not(store: &mut [u8], source: StrPtr) {
+    copy(b"3.0  i1", store, StrPtr::new(15, 0, 12), source);
+    copy(b"3.0  i2", store, StrPtr::new(27, 0, 20), source);
 }
 
-// copstr, appstr and catstr: the literals and d1, then istring, l1 and storag.
-pub(crate) fn section_3_2() {
-    let mut store =
-        *b" abc a d-p one more      a data-varying string                                                                                                                                 ";
-    let istring = StrPtr::full(20, 5);
-    let l1 = StrPtr::new(25, 22, 50);
-    copy(b"3.2  copstr", &mut store, istring, StrPtr::full(0, 5));
+pub(crate) fn section_3_0() {
+    let mut store = *b"is 15 characs                                  ";
+    cut_or_not(&mut store, StrPtr::full(0, 15));
+}
+
+// copstr, appstr and catstr.
+fn copied(store: &mut [u8], istring: StrPtr, l1: StrPtr) {
+    copy(b"3.2  copstr", store, istring, StrPtr::full(0, 5));
     let mut list = [istring; 32];
     list[0] = append(
         b"3.2  appstr (manual: without d1's last blank)",
-        &mut store,
+        store,
         l1,
         StrPtr::full(5, 10),
     );
     list[2] = StrPtr::full(15, 5);
     join(
         b"3.2  catstr",
-        &mut store,
+        store,
         StrPtr::new(75, 0, 100),
         list,
         3,
@@ -75,19 +75,29 @@ pub(crate) fn section_3_2() {
     );
 }
 
+// The literal ' abc', d1 and the literal 'more', then istring, l1 and storag.
+pub(crate) fn section_3_2() {
+    let mut store =
+        *b" abc a d-p one more      a data-varying string                                                                                                                                 ";
+    copied(&mut store, StrPtr::full(20, 5), StrPtr::new(25, 22, 50));
+}
+
+fn say_place(place: Place) {
+    say(b", next");
+    say_number(place.string);
+    say_number(place.character);
+    end_line();
+}
+
 // A round as completed, destination and next place, which is also given.
 fn show_round(name: &[u8], store: &[u8], r: RoundAnswer, from: Place) -> Place {
     say(name);
     match r {
         RoundAnswer::Given(round) => {
-            let next = round.next;
             say_yes(round.completed);
             say_string(store, round.to);
-            say(b", next");
-            say_number(next.string);
-            say_number(next.character);
-            say(b"\n");
-            next
+            say_place(round.next);
+            round.next
         }
         RoundAnswer::Refused(n) => {
             say_refused(n);
@@ -107,33 +117,28 @@ fn round(name: &[u8], store: &mut [u8], from: Place) -> Place {
 }
 
 // Part one.
-fn rounds() {
+fn rounds(store: &mut [u8], first: Place) {
+    let second = round(b"5.2  100 first", store, first);
+    let third = round(b"5.2  100 second", store, second);
+    round(b"5.2  100 third (manual: seven characters)", store, third);
+}
+
+// Part two, cmbstr: two strings appended, then two joined with padding over a length of 40.
+fn combined(store: &mut [u8], l1: StrPtr) {
+    let l1 = append(b"5.2  append more1", store, l1, StrPtr::full(40, 5));
+    let l1 = append(b"5.2  append more2", store, l1, StrPtr::full(45, 5));
+    let mut list = [StrPtr::full(50, 10); 32];
+    list[1] = StrPtr::full(60, 15);
+    join(b"5.2  pad", store, l1.sized(40), list, 2, true);
+}
+
+pub(crate) fn section_5_2() {
     let mut store = *b"1122 3344 5566 7788        ";
     let first = Place {
         string: 1,
         character: 1,
     };
-    let second = round(b"5.2  100 first", &mut store, first);
-    let third = round(b"5.2  100 second", &mut store, second);
-    round(
-        b"5.2  100 third (manual: seven characters)",
-        &mut store,
-        third,
-    );
-}
-
-// Part two, cmbstr: two strings appended, then two joined with padding over a length of 40.
-fn combined() {
+    rounds(&mut store, first);
     let mut store = *b"start                                   more1more2first halfsecond half    ";
-    let l1 = StrPtr::new(0, 5, 40);
-    let l1 = append(b"5.2  append more1", &mut store, l1, StrPtr::full(40, 5));
-    let l1 = append(b"5.2  append more2", &mut store, l1, StrPtr::full(45, 5));
-    let mut list = [StrPtr::full(50, 10); 32];
-    list[1] = StrPtr::full(60, 15);
-    join(b"5.2  pad", &mut store, l1.sized(40), list, 2, true);
-}
-
-pub(crate) fn section_5_2() {
-    rounds();
-    combined();
+    combined(&mut store, StrPtr::new(0, 5, 40));
 }

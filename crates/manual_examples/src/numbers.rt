@@ -1,4 +1,5 @@
 // 5.5, conversions of numbers. cnvstr fills a converted number with blanks or zeros to the old length; here a number has the fewest digits.
+use super::saying::end_line;
 use super::saying::given;
 use super::saying::say;
 use super::saying::say_refused;
@@ -12,7 +13,7 @@ fn say_value(value: i64) {
     let p = given(number::write(&mut store, StrPtr::full(0, 12), value, 10));
     say(b" ");
     say(strlib::text(&store, p));
-    say(b"\n");
+    end_line();
 }
 
 fn read(name: &[u8], store: &[u8], string: StrPtr, base: usize) {
@@ -30,12 +31,14 @@ fn write(name: &[u8], base: usize) {
     show_answer(name, &store, r);
 }
 
-pub(crate) fn section_5_5() {
-    let store = b"  -12 -12 ";
+fn reading(store: &[u8]) {
     let leading = StrPtr::full(0, 5);
     read(b"5.5  inum 10", store, leading, 10);
     read(b"5.5  inum 8", store, leading, 8);
     read(b"5.5  trailing blank", store, StrPtr::full(5, 5), 10);
+}
+
+fn writing() {
     write(b"5.5  toasci 10 (manual: filled with blanks in front)", 10);
     write(b"5.5  toasci 8 (manual: filled with blanks in front)", 8);
     write(
@@ -43,4 +46,9 @@ pub(crate) fn section_5_5() {
         10,
     );
     write(b"5.5  nofill 10 (manual: '-24', of base 8)", 10);
+}
+
+pub(crate) fn section_5_5() {
+    reading(b"  -12 -12 ");
+    writing();
 }

@@ -6,6 +6,10 @@ pub(crate) fn say(text: &[u8]) {
     io::write_all(1, text);
 }
 
+pub(crate) fn end_line() {
+    say(b"\n");
+}
+
 pub(crate) fn say_number(n: usize) {
     say(b" ");
     io::print_decimal(1, n as u64);
@@ -14,7 +18,7 @@ pub(crate) fn say_number(n: usize) {
 pub(crate) fn say_refused(n: u8) {
     say(b" refused");
     say_number(n as usize);
-    say(b"\n");
+    end_line();
 }
 
 pub(crate) fn say_yes(yes: bool) {
@@ -39,7 +43,7 @@ pub(crate) fn say_string(store: &[u8], p: StrPtr) {
 pub(crate) fn show(name: &[u8], store: &[u8], p: StrPtr) {
     say(name);
     say_string(store, p);
-    say(b"\n");
+    end_line();
 }
 
 // A line for a call that gives a string or refuses.

@@ -1,5 +1,6 @@
 // 5.4, character-searching. The strings put into tables are taken without a literal's padding: it would put blank into table 1 and take it
 // out of table 4, in which befchr is to find it.
+use super::saying::end_line;
 use super::saying::say;
 use super::saying::say_number;
 use super::saying::show;
@@ -32,13 +33,7 @@ fn show_character(name: &[u8], c: CharAt) {
     say(name);
     say_number(c.position);
     say_number(c.code as usize);
-    say(b"\n");
-}
-
-// The tables that a character is in: the sum of their masks.
-fn say_tables(name: &[u8], word: u64) {
-    say(name);
-    say_number(word as usize);
+    end_line();
 }
 
 // All characters but those of the string: tabstr with one bit of its mask off.
@@ -51,10 +46,6 @@ fn fill_but(store: &[u8], string: StrPtr, block: &mut [u64], mask: u64) {
 fn two_tables(store: &[u8], block: &mut [u64; 128]) {
     charset::add_characters(store, StrPtr::full(0, 5), block, 1);
     fill_but(store, StrPtr::full(5, 1), block, 2);
-    say_tables(b"5.4  tables of a", block[97]);
-    say_tables(b", b", block[98]);
-    say_tables(b", blank", block[32]);
-    say(b"\n");
 }
 
 // Digits and signs in table 1, tab out of table 2, all but digits and signs in table 4.
@@ -66,14 +57,16 @@ fn three_tables(store: &[u8], block: &mut [u64; 128]) {
     fill_but(store, StrPtr::full(7, 12), block, 4);
 }
 
-fn say_three_tables(block: &[u64; 128]) {
-    say_tables(b"5.4  tables of a", block[97]);
-    say_tables(b", digit", block[49]);
-    say_tables(b", plus", block[43]);
-    say_tables(b", point", block[46]);
-    say_tables(b", blank", block[32]);
-    say_tables(b", tab", block[9]);
-    say(b"\n");
+// The tables that each character is in: the sum of their masks.
+fn say_tables(block: &[u64; 128]) {
+    say(b"5.4  tables of a, 1, plus, point, blank, tab:");
+    say_number(block[97] as usize);
+    say_number(block[49] as usize);
+    say_number(block[43] as usize);
+    say_number(block[46] as usize);
+    say_number(block[32] as usize);
+    say_number(block[9] as usize);
+    end_line();
 }
 
 // What stands in sp1 before the first character that is no digit or sign.
@@ -83,19 +76,17 @@ fn before_other(name: &[u8], store: &[u8], sp1: StrPtr, block: &[u64]) {
 }
 
 // sp1 is what stands after the first character that is no blank and no tab, or, as the manual's text has it, from that character on.
-fn stripped(block: &[u64; 128]) {
-    let store = b" +73 24   ";
-    let numlst = StrPtr::full(0, 10);
+fn stripped(store: &[u8], numlst: StrPtr, block: &[u64]) {
     let c = first(store, numlst, block, 2);
-    let sp1 = relative(store, numlst, c.position);
+    let after = relative(store, numlst, c.position);
+    let from = between(store, numlst, c.position, 0);
     before_other(
         b"5.4  sp2 (manual: '+73', but aftchr leaves the match out)",
         store,
-        sp1,
+        after,
         block,
     );
-    let sp1 = between(store, numlst, c.position, 0);
-    before_other(b"5.4  sp2 with the match", store, sp1, block);
+    before_other(b"5.4  sp2 with the match", store, from, block);
 }
 
 // The innermost parentheses: from the last left one to the first right one after it. The host starts at 1 in the store, so that the start of
@@ -108,7 +99,7 @@ fn innermost(store: &[u8], expres: StrPtr, block: &[u64]) {
     let rest = relative(store, part, right.position);
     say(b"5.4  innrp");
     say_number(rest.start);
-    say(b"\n");
+    end_line();
     show(
         b"5.4  sp3",
         store,
@@ -119,35 +110,39 @@ fn innermost(store: &[u8], expres: StrPtr, block: &[u64]) {
 // The first left parenthesis: the host cut before it, then asked of the first character alone.
 fn first_left(store: &[u8], expres: StrPtr, block: &[u64]) {
     let c = first(store, expres, block, 8);
+    let sp1 = between(store, expres, c.position, 0);
+    let sp2 = between(store, expres, 1, c.position);
     show(
         b"5.4  allchr sp1 (manual: 'i+(j+k)-)', the match left out)",
         store,
-        between(store, expres, c.position, 0),
+        sp1,
     );
-    show(
-        b"5.4  allchr sp2 (manual: '(', the match)",
-        store,
-        between(store, expres, 1, c.position),
-    );
+    show(b"5.4  allchr sp2 (manual: '(', the match)", store, sp2);
     let part = between(store, expres, 1, 2);
     show_character(b"5.4  anchor (manual: 0)", first(store, part, block, 8));
 }
 
-fn parentheses(block: &mut [u64; 128]) {
-    let store = b" (i+(j+k)-)()";
-    let expres = StrPtr::full(1, 10);
+fn parentheses(store: &[u8], expres: StrPtr, block: &mut [u64; 128]) {
     charset::add_characters(store, StrPtr::full(11, 1), block, 8);
     charset::add_characters(store, StrPtr::full(12, 1), block, 16);
     innermost(store, expres, block);
     first_left(store, expres, block);
 }
 
-pub(crate) fn section_5_4() {
-    let store = b"aeiou \t+-1234567890.-+";
+fn searches(block: &mut [u64; 128]) {
+    stripped(b" +73 24   ", StrPtr::full(0, 10), block);
+    parentheses(b" (i+(j+k)-)()", StrPtr::full(1, 10), block);
+}
+
+fn tables(store: &[u8]) {
     let mut block = [0u64; 128];
     two_tables(store, &mut block);
+    say_tables(&block);
     three_tables(store, &mut block);
-    say_three_tables(&block);
-    stripped(&block);
-    parentheses(&mut block);
+    say_tables(&block);
+    searches(&mut block);
+}
+
+pub(crate) fn section_5_4() {
+    tables(b"aeiou \t+-1234567890.-+");
 }

@@ -15,13 +15,19 @@ pub(crate) fn between(store: &[u8], string: StrPtr, pos1: usize, pos2: usize) ->
     given(cutting::between(store, string, pos1, pos2))
 }
 
-pub(crate) fn section_3_3() {
-    let store = b"1122334455example";
-    let digits = StrPtr::full(0, 10);
-    let example = StrPtr::full(10, 7);
-    show(b"3.3  def 3.3", store, between(store, example, 2, 6));
+fn cuts(store: &[u8], digits: StrPtr) {
     show(b"3.3  sp1", store, relative(store, digits, 2));
     show(b"3.3  sp2", store, counted(store, digits, 1, 6));
     show(b"3.3  sp3", store, between(store, digits, 7, 9));
     show(b"3.3  sp4", store, between(store, digits, 7, 0));
+}
+
+fn definition(store: &[u8]) {
+    let example = StrPtr::full(0, 7);
+    show(b"3.3  def 3.3", store, between(store, example, 2, 6));
+}
+
+pub(crate) fn section_3_3() {
+    definition(b"example");
+    cuts(b"1122334455", StrPtr::full(0, 10));
 }

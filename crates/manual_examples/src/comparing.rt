@@ -38,10 +38,10 @@ fn say_sign(sign: i8) {
         return;
     }
     if 0 < sign {
-        say(b" 1");
+        say_number(1);
         return;
     }
-    say(b" 0");
+    say_number(0);
 }
 
 fn compare(

@@ -68,7 +68,7 @@ fn copied(store: &mut [u8], istring: StrPtr, l1: StrPtr) {
     join(
         b"3.2  catstr",
         store,
-        StrPtr::new(75, 0, 100),
+        StrPtr::new(60, 0, 45),
         list,
         3,
         false,
@@ -78,8 +78,8 @@ fn copied(store: &mut [u8], istring: StrPtr, l1: StrPtr) {
 // The literal ' abc', d1 and the literal 'more', then istring, l1 and storag.
 pub(crate) fn section_3_2() {
     let mut store =
-        *b" abc a d-p one more      a data-varying string                                                                                                                                 ";
-    copied(&mut store, StrPtr::full(20, 5), StrPtr::new(25, 22, 50));
+        *b" abc a d-p one more      a data-varying string                                                           ";
+    copied(&mut store, StrPtr::full(20, 5), StrPtr::new(25, 22, 35));
 }
 
 fn say_place(place: Place) {
@@ -90,8 +90,7 @@ fn say_place(place: Place) {
 }
 
 // A round as completed, destination and next place, which is also given.
-fn show_round(name: &[u8], store: &[u8], r: RoundAnswer, from: Place) -> Place {
-    say(name);
+fn show_round(store: &[u8], r: RoundAnswer, from: Place) -> Place {
     match r {
         RoundAnswer::Given(round) => {
             say_yes(round.completed);
@@ -106,21 +105,31 @@ fn show_round(name: &[u8], store: &[u8], r: RoundAnswer, from: Place) -> Place {
     }
 }
 
+// The manual's write after the last call has a seventh character, left over from the call before.
+fn say_call(number: usize) {
+    say(b"5.2  100 call");
+    say_number(number);
+    if number == 3 {
+        say(b" (manual: seven characters)");
+    }
+}
+
 // chkstr's four strings of five characters, at the front of the store, into the seven bytes behind them.
-fn round(name: &[u8], store: &mut [u8], from: Place) -> Place {
+fn round(number: usize, store: &mut [u8], from: Place) -> Place {
+    say_call(number);
     let mut list = [StrPtr::full(0, 5); 32];
     list[1] = StrPtr::full(5, 5);
     list[2] = StrPtr::full(10, 5);
     list[3] = StrPtr::full(15, 5);
     let r = copying::join_from(store, StrPtr::new(20, 0, 7), list, 4, from);
-    show_round(name, store, r, from)
+    show_round(store, r, from)
 }
 
 // Part one.
 fn rounds(store: &mut [u8], first: Place) {
-    let second = round(b"5.2  100 first", store, first);
-    let third = round(b"5.2  100 second", store, second);
-    round(b"5.2  100 third (manual: seven characters)", store, third);
+    let second = round(1, store, first);
+    let third = round(2, store, second);
+    round(3, store, third);
 }
 
 // Part two, cmbstr: two strings appended, then two joined with padding over a length of 40.

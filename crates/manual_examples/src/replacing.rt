@@ -1,13 +1,18 @@
 // 3.5, miscellaneous routines.
 use super::saying::given;
+use super::saying::say;
+use super::saying::say_number;
 use super::saying::show;
 use super::saying::show_answer;
 use super::substrings::counted;
 use strlib::StrPtr;
 
-fn replace(name: &[u8], store: &mut [u8], string1: StrPtr, string2: StrPtr, string3: StrPtr) {
+// The manual's calls of repstr, numbered from 1: the second is at 300, the third at 301, the fifth in the note.
+fn replace(number: usize, store: &mut [u8], string1: StrPtr, string2: StrPtr, string3: StrPtr) {
+    say(b"3.5  repstr");
+    say_number(number);
     let r = editing::replace(store, string1, string2, string3);
-    show_answer(name, store, r);
+    show_answer(b"", store, r);
 }
 
 // bldstr, and repstr with the literal 'abc', at 25, before and after setstr.
@@ -15,9 +20,9 @@ fn padded_literal(store: &mut [u8], abc: StrPtr) {
     let sp1 = StrPtr::full(0, 20);
     let place = counted(store, sp1, 2, 0);
     show(b"3.5  bldstr", store, sp1);
-    replace(b"3.5  repstr sp1", store, sp1, place, abc);
+    replace(1, store, sp1, place, abc);
     let sp1 = StrPtr::new(0, 20, 25);
-    replace(b"3.5  300", store, sp1, place, abc);
+    replace(2, store, sp1, place, abc);
 }
 
 // The call at 301 stands in place of the one at 300.
@@ -26,7 +31,7 @@ fn trimmed_literal(store: &mut [u8], abc: StrPtr) {
     let place = counted(store, sp1, 2, 0);
     let np = given(cutting::trim(store, abc));
     show(b"3.5  trcstr", store, np);
-    replace(b"3.5  301", store, sp1, place, np);
+    replace(3, store, sp1, place, np);
 }
 
 // The record that the manual reads into inblk is ours.
@@ -52,14 +57,14 @@ fn reversed(store: &mut [u8], l1: StrPtr, l2: StrPtr) {
     reverse(store, l1, l2);
     show(b"3.5  setstr l2", store, l2.sized(6));
     let part = counted(store, l1, 2, 2);
-    replace(b"3.5  repstr l1", store, l1, part, StrPtr::full(15, 0));
+    replace(4, store, l1, part, StrPtr::full(15, 0));
 }
 
 // The literal '23' is no part of the literal '12345', though its characters stand there.
 fn other_place(store: &mut [u8]) {
     let s12345 = StrPtr::full(0, 5);
     let s23 = StrPtr::full(5, 5);
-    replace(b"3.5  repstr note", store, s12345, s23, StrPtr::full(10, 5));
+    replace(5, store, s12345, s23, StrPtr::full(10, 5));
 }
 
 pub(crate) fn section_3_5() {

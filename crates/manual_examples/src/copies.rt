@@ -105,7 +105,7 @@ fn show_round(store: &[u8], r: RoundAnswer, from: Place) -> Place {
     }
 }
 
-// The manual's write after the last call has a seventh character, left over from the call before.
+// The manual says that seven characters are written the third time too; only six are left.
 fn say_call(number: usize) {
     say(b"5.2  100 call");
     say_number(number);

@@ -1,7 +1,7 @@
 -- What is noted: one character more changes the answer of the plain search exactly by the note of the text that was read. Assumes nothing.
-use Prim.Native.Nat.{ℕ, zero, suc, _+_, _-_, _*_, _≤_, _<_}
+use Prim.Native.Nat.{ℕ, zero, suc, _-_, _≤_}
 use mathlib.Core.Path.{_≡_, refl, sym, ap, _∙_}
-use mathlib.Core.Bool.{Bool, true, false, _&&_, true≢false, false≢true}
+use mathlib.Core.Bool.{Bool, true, false, true≢false}
 use mathlib.Core.List.{List, [], _∷_, _++_}
 use native.Mathlib.Omega.{arith}
 use mathlib.Core.Logic.{_⊎_, inl, inr, ⊎-elim}
@@ -130,9 +130,6 @@ closed-count (s ∷ ss) w =
 pub note-closed : (ss : List (List ℕ)) (v : List ℕ) {k : ℕ} → closed ss v ≡ suc k → noteAt ss v ≡ onlyWhere (eqb (lengthOf ss (suc k)) (length v)) (suc k)
 note-closed ss [] e = rw e
 note-closed ss (x ∷ v) e = rw e
-
-pub note-nil : (ss : List (List ℕ)) → closed ss [] ≡ zero → noteAt ss [] ≡ zero
-note-nil ss e = rw e
 
 -- what is noted is a listed string
 where-le : (b : Bool) (i m : ℕ) → i ≤ m → onlyWhere b i ≤ m

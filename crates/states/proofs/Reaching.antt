@@ -1,14 +1,14 @@
 -- Which text matters: by the kinds of a text, each by going through the strings. One character more is one step from the text that
 -- matters, and after a stop nothing changes. Assumes nothing.
-use Prim.Native.Nat.{ℕ, zero, suc, _+_, _-_, _*_, _≤_, _<_}
+use Prim.Native.Nat.{ℕ, zero, suc, _≤_, _<_}
 use mathlib.Core.Path.{_≡_, refl, sym, ap, _∙_}
-use mathlib.Core.Bool.{Bool, true, false, _&&_, true≢false, false≢true}
+use mathlib.Core.Bool.{Bool, true, false}
 use mathlib.Core.List.{List, [], _∷_, _++_}
 use native.Mathlib.Omega.{arith}
 use lib.Dec.{leb, leb·suc-zero, leb·suc-suc, leb·zero}
 use lib.ListN.{length}
-use Rattle.search.specs.Search.{isPrefix, further, firstNumber, closed, lengthOf, Result, nothing, found, onward, plainSearch}
-use Rattle.states.specs.Node.{child, Kind, live, shut, dead, lead, kind, kindOf, Node, stop, at, arrive, reach, nextNode}
+use Rattle.search.specs.Search.{isPrefix, further, firstNumber, closed, lengthOf, nothing, found, onward, plainSearch}
+use Rattle.states.specs.Node.{child, Kind, live, shut, dead, lead, kind, kindOf, stop, at, arrive, reach, nextNode}
 use Rattle.states.proofs.Prefixes.{not-prefix-longer, prefix-longer, apart-longer, how}
 
 -- `kindOf` by recursion on the list of strings

@@ -1,11 +1,11 @@
 -- A row from its parts: the default of the tail, the strings that go on, the note; and rows that other writes leave. Assumes nothing.
-use Prim.Native.Nat.{ℕ, zero, suc, _+_, _-_, _*_, _≤_, _<_}
+use Prim.Native.Nat.{ℕ, zero, suc, _+_, _*_, _≤_, _<_}
 use mathlib.Core.Path.{_≡_, refl, sym, ap, _∙_}
-use mathlib.Core.Bool.{Bool, true, false, _&&_, true≢false, false≢true}
+use mathlib.Core.Bool.{Bool, true, false}
 use mathlib.Core.List.{List, [], _∷_, _++_}
 use native.Mathlib.Omega.{arith}
-use mathlib.Core.Logic.{_⊎_, inl, inr}
-use lib.Dec.{eqb, ltb}
+use mathlib.Core.Logic.{inl, inr}
+use lib.Dec.{eqb}
 use lib.ListN.{length, getD, take, drop}
 use borrow.Author.Tests.{lt-ltb, le-ltb, eqb-true}
 use Rattle.strlib.proofs.Pointing.{either}
@@ -17,7 +17,7 @@ use Rattle.states.specs.State.{total, before, offset, stateOf, IsNode, R
 use Rattle.states.specs.Fill.{limit, ifOpen, defaultNote, rootTo, wordOrStop, newNote, Frame, Flat, Defaulted, Children, NotePut, Default, Rowed, Short, Levels}
 use Rattle.states.proofs.Prefixes.{bool-case}
 use Rattle.states.proofs.Reaching.{live-child, reach-live, reach-step, reach-length}
-use Rattle.states.proofs.Noting.{note-reach, note-closed, note-nil}
+use Rattle.states.proofs.Noting.{note-reach, note-closed}
 use Rattle.states.proofs.Numbering.{before-zero, state-le, state-pos}
 use Rattle.states.proofs.Targeting.{reach-target}
 

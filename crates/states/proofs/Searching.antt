@@ -1,20 +1,20 @@
 -- The run over words that hold the rows of a list finds what the plain search finds: after each character the note is the plain search's
 -- answer for what was read, and a stop changes nothing for any continuation. Assumes nothing.
-use Prim.Native.Nat.{ℕ, zero, suc, _+_, _-_, _*_, _≤_, _<_}
+use Prim.Native.Nat.{ℕ, zero, suc, _+_, _≤_, _<_}
 use mathlib.Core.Path.{_≡_, refl, sym, ap, _∙_}
-use mathlib.Core.Bool.{Bool, true, false, _&&_}
+use mathlib.Core.Bool.{true}
 use mathlib.Core.List.{List, [], _∷_, _++_}
 use native.Mathlib.Omega.{arith}
 use mathlib.Core.List.{append-assoc, append-nil}
-use mathlib.Core.Logic.{_⊎_, inl, inr}
+use mathlib.Core.Logic.{inl, inr}
 use lib.Dec.{leb}
 use lib.ListN.{length}
 use borrow.Author.Tests.{leb-true, lt-ltb, le-leb}
 use Rattle.strlib.proofs.Refusing.{and-both}
 use Rattle.strlib.specs.Pointer.{all, characters}
-use Rattle.search.specs.Search.{lengthOf, Result, nothing, found, plainSearch}
+use Rattle.search.specs.Search.{lengthOf, Result, nothing, plainSearch}
 use Rattle.table.proofs.Walking.{enter-pos, step-pos, walk-stop}
-use Rattle.table.specs.Run.{sizeOf, Walk, rests, noted, enter, step, walk, runOver}
+use Rattle.table.specs.Run.{Walk, rests, noted, enter, step, walk, runOver}
 use Rattle.states.specs.Node.{Node, stop, at, reach, nextNode, noteAt, nodeNote}
 use Rattle.states.specs.State.{total, stateOf, IsNode, Represents}
 use Rattle.states.proofs.Prefixes.{length-snoc}

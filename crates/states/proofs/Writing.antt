@@ -1,11 +1,11 @@
 -- What each writer of words leaves, one word more at a time. Assumes nothing.
 use Prim.Native.Nat.{ℕ, zero, suc, _+_, _-_, _*_, _≤_, _<_}
 use mathlib.Core.Path.{_≡_, refl, sym, ap, _∙_}
-use mathlib.Core.Bool.{Bool, true, false, _&&_, true≢false, false≢true}
+use mathlib.Core.Bool.{Bool, true, false, _&&_, false≢true}
 use mathlib.Core.List.{List, [], _∷_, _++_}
 use native.Mathlib.Omega.{arith}
 use lib.Dec.{eqb, ltb}
-use lib.ListN.{length, getD, drop, set, length-set, drop-of-length-le}
+use lib.ListN.{length, getD, set, length-set, drop-of-length-le}
 use lib.Seq.{getD-set-same, getD-set-other, drop-cons}
 use borrow.Author.Tests.{lt-ltb, le-ltb, eq-eqb, ne-eqb}
 use Rattle.strlib.proofs.Pointing.{either}
@@ -14,7 +14,7 @@ use Rattle.search.proofs.Prefixes.{prefix-length}
 use Rattle.search.specs.Search.{isPrefix}
 use Rattle.table.specs.Run.{wordOf}
 use Rattle.states.specs.State.{before}
-use Rattle.states.specs.Fill.{choose, wordOrStop, newNote, Frame, Wrote, Filled, Copied, Flat, Defaulted, Put, Children, NotePut, Rowed}
+use Rattle.states.specs.Fill.{choose, newNote, Frame, Wrote, Filled, Copied, Flat, Defaulted, Put, Children, NotePut, Rowed}
 use Rattle.states.proofs.Prefixes.{bool-case, not-prefix-longer, length-snoc}
 use Rattle.states.proofs.Numbering.{before-suc}
 use Rattle.states.proofs.Rowing.{same-or-not}

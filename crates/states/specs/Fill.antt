@@ -9,7 +9,7 @@ use lib.ListN.{length, getD, take, drop}
 use Rattle.search.specs.Search.{isPrefix, closed, lengthOf}
 use Rattle.table.specs.Run.{wordOf}
 use Rattle.states.specs.Node.{at, reach, noteAt}
-use Rattle.states.specs.State.{total, before, stateOf, IsNode, RowAt}
+use Rattle.states.specs.State.{before, stateOf, IsNode, RowAt}
 
 abbrev pub choose : Bool → ℕ → ℕ → ℕ
 choose true a b = a

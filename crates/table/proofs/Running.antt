@@ -1,7 +1,7 @@
 -- Laws of the run's code: each return is a clause of the rule. Assumes nothing.
 use mathlib.Core.Path.{_≡_, refl, sym, ap, _∙_}
 use mathlib.Core.Bool.{Bool, true, false, _&&_, and-false}
-use mathlib.Core.List.{List, [], _∷_, _++_}
+use mathlib.Core.List.{List, [], _∷_}
 use Prim.Native.Nat.{ℕ, zero, suc, _+_, _-_, _*_, _≤_, _<_}
 use native.Mathlib.Numerals.{add-one}
 use native.Mathlib.Omega.{arith}
@@ -10,7 +10,7 @@ use lib.ListN.{length, getD, drop}
 use borrow.Author.Needs.{needs}
 use borrow.Author.Tests.{leb-true, le-leb, lt-leb, lt-ltb, le-ltb}
 use Rattle.strlib.proofs.Pointing.{fits-is, good-is, text-length}
-use Rattle.strlib.proofs.Refusing.{and-both, inTurn, first-is, first-before, first-behind, passed, also-found, outcome-no}
+use Rattle.strlib.proofs.Refusing.{and-both, inTurn, first-is, first-before, first-behind, passed, outcome-no}
 use Rattle.strlib.specs.Pointer.{textOf, characters, readable}
 use Rattle.strlib.proofs.Texts.{character-at}
 use Rattle.strlib.specs.Refusal.{Outcome, refused, gives, first, outcome}

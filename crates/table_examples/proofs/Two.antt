@@ -1,16 +1,16 @@
 -- From the two calls' promises: a table's run refuses a host as the plain search would, and else finds the same. Assumes nothing.
 use mathlib.Core.Path.{_≡_, refl, sym, ap, _∙_}
-use mathlib.Core.Bool.{Bool, true}
+use mathlib.Core.Bool.{Bool}
 use mathlib.Core.List.{List, [], _∷_}
 use Prim.Native.Nat.{ℕ, zero, suc}
 use native.Mathlib.Omega.{arith}
 use lib.ListN.{length}
 use borrow.Author.Needs.{needs}
-use Rattle.strlib.proofs.Refusing.{first-before, passed, outcome-no, outcome-gave, outcome-refused}
+use Rattle.strlib.proofs.Refusing.{first-before, passed, outcome-gave, outcome-refused}
 use Rattle.strlib.specs.Pointer.{textOf}
-use Rattle.strlib.specs.Refusal.{Outcome, refused, gives, outcome}
+use Rattle.strlib.specs.Refusal.{refused, gives, outcome}
 use Rattle.strlib.specs.declared.StrPtr.{StrPtr}
-use Rattle.search.specs.Search.{Result, plainSearch}
+use Rattle.search.specs.Search.{plainSearch}
 use Rattle.table.specs.Run.{isSized, runOver, isRest, ranOf, runRefusal, runRule}
 use Rattle.table.specs.declared.RunAnswer.{RunAnswer}
 use Rattle.table.specs.Run.{ranAnswered}

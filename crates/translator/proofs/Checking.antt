@@ -1,7 +1,7 @@
 -- Laws of the call: its refusals, and the table from the rows. Assumes nothing.
 use mathlib.Core.Path.{_≡_, refl, sym, ap, _∙_}
-use mathlib.Core.Bool.{Bool, true, false, cond}
-use mathlib.Core.List.{List, [], _∷_, _++_}
+use mathlib.Core.Bool.{Bool, true}
+use mathlib.Core.List.{List, [], _∷_}
 use Prim.Native.Nat.{ℕ, zero, suc, _+_, _*_, _≤_, _<_, min}
 use native.Mathlib.Omega.{arith}
 use lib.Dec.{leb}
@@ -12,12 +12,12 @@ use borrow.Author.Tests.{le-leb, lt-leb, leb-true}
 use Rattle.strlib.proofs.Pointing.{fits-is}
 use Rattle.strlib.proofs.Refusing.{inTurn, first-is, first-before, first-behind, Passed, passed, outcome-no, outcome-yes}
 use Rattle.strlib.proofs.Texts.{texts-long, texts-readable}
-use Rattle.strlib.specs.Pointer.{textOf, texts, all, characters, readable}
-use Rattle.strlib.specs.Refusal.{Outcome, refused, gives, first, outcome}
+use Rattle.strlib.specs.Pointer.{textOf, readable}
+use Rattle.strlib.specs.Refusal.{refused, gives, first, outcome}
 use Rattle.strlib.specs.declared.StrPtr.{StrPtr}
 use Rattle.search.specs.Search.{Result, plainSearch}
 use Rattle.table.proofs.Running.{is-sized}
-use Rattle.table.specs.Run.{sizeOf, isSized, Walk, rests, runOver, isRest, ranOf, runRefusal, runRule}
+use Rattle.table.specs.Run.{sizeOf, isSized, Walk, runOver, isRest, ranOf, runRefusal, runRule}
 use Rattle.states.proofs.Levelling.{kept-none, kept-frame, kept-trans}
 use Rattle.states.proofs.Rowing.{rows-of}
 use Rattle.states.proofs.Searching.{Answers, run-search}

@@ -1,7 +1,6 @@
 -- Demand 3, from the two calls' rules: a list within the limits is not refused, so the words are a table, and the law of the plain search says
 -- of each host what the note is. Assumes nothing.
-use mathlib.Core.Path.{_≡_, refl, sym, ap, _∙_}
-use mathlib.Core.Bool.{true}
+use mathlib.Core.Path.{_≡_, ap, _∙_}
 use mathlib.Core.List.{List}
 use Prim.Native.Nat.{ℕ, _≤_}
 use native.Mathlib.Omega.{arith}
@@ -14,7 +13,7 @@ use Rattle.search.proofs.Meaning.{search-law}
 use Rattle.search.specs.Search.{Result, plainSearch}
 use Rattle.table.specs.Run.{runRule}
 use Rattle.states.specs.State.{total}
-use Rattle.translator.specs.Translate.{listed, translateRefusal, Host, noteIn, Table, Words, Translated}
+use Rattle.translator.specs.Translate.{listed, translateRefusal, noteIn, Table, Words, Translated}
 use Rattle.translator.specs.Demand3.{Listed, Found, Demand3}
 
 -- a note comes with a number read

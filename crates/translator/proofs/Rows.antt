@@ -1,6 +1,6 @@
 -- Laws of a row: its default, the strings that go on, the note. Assumes nothing.
 use mathlib.Core.Path.{_≡_, refl, sym, ap, _∙_}
-use mathlib.Core.Bool.{Bool, true, false, _&&_}
+use mathlib.Core.Bool.{Bool, true}
 use mathlib.Core.List.{List, [], _∷_}
 use Prim.Native.Nat.{ℕ, zero, suc, _+_, _-_, _*_, _≤_, _<_}
 use native.Mathlib.Omega.{arith}
@@ -17,8 +17,7 @@ use Rattle.states.proofs.Noting.{closed-count}
 use Rattle.states.proofs.Numbering.{reach-lt}
 use Rattle.states.proofs.Rowing.{row-of, default-of, default-root}
 use Rattle.states.proofs.Writing.{rowed-default, rowed-flat}
-use Rattle.states.specs.Node.{reach}
-use Rattle.states.specs.State.{total, stateOf}
+use Rattle.states.specs.State.{total}
 use Rattle.states.specs.Fill.{limit, ifOpen, rootTo, wordOrStop, Flat, Defaulted, Children, NotePut, Rowed, Stepped}
 use Rattle.translator.proofs.Listing.{listed-length, listed-take, length-listed}
 use Rattle.translator.specs.Translate.{listed}

@@ -1,13 +1,12 @@
 -- Which laws each writer of words is proved by. Assumes nothing.
-use mathlib.Core.Path.{_≡_, refl, sym, ap, _∙_}
+use mathlib.Core.Path.{_≡_, sym, _∙_}
 use mathlib.Core.Bool.{Bool, true}
 use mathlib.Core.List.{List}
 use Prim.Native.Nat.{ℕ, suc, _+_, _≤_, _<_}
 use native.Mathlib.Omega.{arith}
 use lib.ListN.{length, take, getD}
 use borrow.Author.Needs.{needs}
-use Rattle.strlib.proofs.Texts.{character-at}
-use Rattle.strlib.specs.Pointer.{textOf, texts, characters}
+use Rattle.strlib.specs.Pointer.{textOf, texts}
 use Rattle.strlib.specs.declared.StrPtr.{StrPtr}
 use Rattle.search.proofs.Finding.{Tried, tried-none, tried-more, tried-all, tried-hit}
 use Rattle.search.specs.Search.{isPrefix, closed}

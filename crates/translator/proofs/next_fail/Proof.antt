@@ -1,6 +1,5 @@
 use Prim.Native.Nat.{_<_}
 use native.Mathlib.Omega.{arith}
-use lib.ListN.{length}
 use borrow.Author.Needs.{needs}
 use Rattle.strlib.proofs.Texts.{character-at}
 use Rattle.translator.proofs.next_fail.Statement.{statement}

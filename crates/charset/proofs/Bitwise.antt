@@ -11,7 +11,7 @@ use lib.Dec.{eqb}
 use lib.ListN.{length, getD, set, length-set}
 use lib.Seq.{lt-length-set, getD-set-same, getD-set-other}
 use borrow.Author.Tests.{eqb-true, eq-eqb, ltb-true}
-use Rattle.strlib.proofs.Refusing.{passed, ruled-gave}
+use Rattle.strlib.proofs.Refusing.{bool-case, passed, ruled-gave}
 use Rattle.strlib.specs.Pointer.{textOf}
 use Rattle.strlib.specs.Refusal.{gives}
 use Rattle.strlib.specs.declared.StrPtr.{StrPtr}
@@ -52,10 +52,6 @@ bit-le zero m = omega arith
 bit-le (suc b) m = bit-le b (m / 2)
 
 -- ---- two tests of which one holds
-
-bool-case : {P : Type 0} (b : Bool) → (b ≡ true → P) → (b ≡ false → P) → P
-bool-case true f g = f refl
-bool-case false f g = g refl
 
 neither-left : (x c : ℕ) (b : Bool) → (eqb x c || b) ≡ false → x ≡ c → ⊥
 neither-left x c b e q = true≢false (sym (ap (λ (a : Bool). a || b) (eq-eqb x c q)) ∙ e)

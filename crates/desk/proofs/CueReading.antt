@@ -13,7 +13,8 @@ use lib.Seq.{take-all}
 use Rattle.number.specs.Limits.{isBase, inRange}
 use Rattle.number.specs.Text.{isNumber, numberOf}
 use Rattle.number.specs.Number.{readRefusal, readRule}
-use Rattle.strlib.proofs.Refusing.{and-both, inTurn, first-is, first-before, first-behind, Passed, passed, outcome-no}
+use Rattle.strlib.proofs.Listing.{all-take, all-drop}
+use Rattle.strlib.proofs.Refusing.{inTurn, first-is, first-before, first-behind, Passed, passed, outcome-no}
 use Rattle.strlib.specs.Pointer.{pointer, storeFits, goodIn, textOf, all, characters, readable}
 use Rattle.strlib.specs.Refusal.{Outcome, refused, gives, first, outcome}
 use Rattle.strlib.specs.declared.StrPtr.{StrPtr}
@@ -38,21 +39,9 @@ line-checked s mics lsps form k e = first-is (lineChecks s mics lsps form) refl 
 
 -- ---- a number of the line
 
-all-drop : (f : ℕ → Bool) (n : ℕ) (s : List ℕ) → all f s ≡ true → all f (drop n s) ≡ true
-unfolding all
-all-drop f zero s e = e
-all-drop f (suc n) [] e = e
-all-drop f (suc n) (x ∷ s) e = all-drop f n s (and-both (f x) (all f s) e .1)
-
-all-take : (f : ℕ → Bool) (n : ℕ) (s : List ℕ) → all f s ≡ true → all f (take n s) ≡ true
-unfolding all
-all-take f zero s e = refl
-all-take f (suc n) [] e = refl
-all-take f (suc n) (x ∷ s) e = let b = and-both (f x) (all f s) e in rw (b .0) (all-take f n s (b .1))
-
 part-readable : (s : List ℕ) (p : StrPtr) → characters s ≡ true → readable s p ≡ true
 unfolding readable textOf characters
-part-readable s p e = all-take (λ x. leb x 127) (p .length) (drop (p .start) s) (all-drop (λ x. leb x 127) (p .start) s e)
+part-readable s p e = all-take (λ x. leb x 127) (drop (p .start) s) (p .length) (all-drop (λ x. leb x 127) s (p .start) e)
 
 -- what a text says in base 10, or 7 or 8
 abbrev read : List ℕ → Outcome ℤ

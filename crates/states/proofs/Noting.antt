@@ -8,10 +8,11 @@ use mathlib.Core.Logic.{_⊎_, inl, inr, ⊎-elim}
 use lib.Dec.{eqb}
 use lib.ListN.{length}
 use borrow.Author.Tests.{eq-eqb, ne-eqb}
+use Rattle.strlib.proofs.Refusing.{bool-case}
 use Rattle.search.proofs.Prefixes.{prefix-length}
 use Rattle.search.specs.Search.{isPrefix, further, closed, lengthOf, Result, nothing, found, onward, atFront, plainSearch}
 use Rattle.states.specs.Node.{shut, kindOf, reach, onlyWhere, whole, noteAt, nodeNote}
-use Rattle.states.proofs.Prefixes.{prefix-longer, prefix-same, prefix-snoc, length-snoc, bool-case, how}
+use Rattle.states.proofs.Prefixes.{prefix-longer, prefix-same, prefix-snoc, length-snoc, how}
 use Rattle.states.proofs.Reaching.{kindOf-cons, live≢shut, shut≢dead, dead-closed, shut-closed, kind-case}
 
 -- the lengths

@@ -5,12 +5,12 @@ use mathlib.Core.List.{List, [], _∷_}
 use native.Mathlib.Omega.{arith}
 use mathlib.Core.Logic.{inl, inr}
 use lib.ListN.{length, getD}
+use Rattle.strlib.proofs.Refusing.{bool-case}
 use Rattle.strlib.proofs.Pointing.{either}
 use Rattle.search.proofs.Prefixes.{prefix-length}
 use Rattle.search.specs.Search.{isPrefix, further}
 use Rattle.states.specs.Node.{child, Node, stop, at, reach}
 use Rattle.states.specs.State.{total, before, offset, stateOf, IsNode}
-use Rattle.states.proofs.Prefixes.{bool-case}
 use Rattle.states.proofs.Reaching.{reach-live, live-child}
 
 -- the places of the strings
@@ -53,17 +53,21 @@ state-apart ss i j k l hi hj k0 kl l0 ll e =
     (λ (a : j < i). absurd (omega (arith, before-suc ss j hj, before-mono ss (suc j) i (omega arith))))
 
 -- the numbers stay below the size
-pub offset-further : (s : List ℕ) (ss : List (List ℕ)) (i : ℕ) → 0 < further i → (0 < i) × (offset (s ∷ ss) (further i) ≡ length s + offset ss i)
+pub further-pos : (i : ℕ) → 0 < further i → 0 < i
+further-pos zero h = absurd (omega arith)
+further-pos (suc i) h = omega arith
+
+pub offset-further : (s : List ℕ) (ss : List (List ℕ)) (i : ℕ) → 0 < i → offset (s ∷ ss) (further i) ≡ length s + offset ss i
 offset-further s ss zero h = absurd (omega arith)
-offset-further s ss (suc i) h = (omega arith, refl)
+offset-further s ss (suc i) h = refl
 
 pub offset-le : (ss : List (List ℕ)) (v : List ℕ) → 0 < child ss v → offset ss (child ss v) + length v ≤ total ss
 offset-le [] v h = absurd (omega arith)
 offset-le (s ∷ ss) v h =
     bool-case (isPrefix v s)
     (λ p. rw p (omega (arith, prefix-length v s p)))
-    (λ p. let b = offset-further s ss (child ss v) (rw p at h) in
-    rw (p, b .1) (omega (arith, offset-le ss v (b .0))))
+    (λ p. let b = further-pos (child ss v) (rw p at h) in
+    rw (p, offset-further s ss (child ss v) b) (omega (arith, offset-le ss v b)))
 
 pub state-lt : (ss : List (List ℕ)) (v : List ℕ) → IsNode ss v → stateOf ss (at v) < total ss + 2
 state-lt ss [] h = omega arith

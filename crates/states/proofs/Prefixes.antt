@@ -6,13 +6,8 @@ use mathlib.Core.List.{List, [], _∷_, _++_}
 use native.Mathlib.Omega.{arith}
 use lib.Dec.{eqb, eqb·zero-suc, eqb·suc-zero, eqb·suc-suc}
 use lib.ListN.{length}
-use Rattle.strlib.proofs.Refusing.{and-both}
+use Rattle.strlib.proofs.Refusing.{bool-case, and-both}
 use Rattle.search.specs.Search.{isPrefix}
-
--- a case split that keeps the equation, usable inside a clause (so its branches may make recursive calls)
-pub bool-case : {P : Type 0} (b : Bool) → (b ≡ true → P) → (b ≡ false → P) → P
-bool-case true f g = f refl
-bool-case false f g = g refl
 
 -- how s and w stand to one another: w ⊑ s; s a proper prefix of w; they part
 pub how : {P : Type 0} (s w : List ℕ) → (isPrefix w s ≡ true → P) → (isPrefix w s ≡ false → isPrefix s w ≡ true → P) → (isPrefix w s ≡ false → isPrefix s w ≡ false → P) → P

@@ -8,6 +8,7 @@ use mathlib.Core.Logic.{inl, inr}
 use lib.Dec.{eqb}
 use lib.ListN.{length, getD, take, drop}
 use borrow.Author.Tests.{lt-ltb, le-ltb, eqb-true}
+use Rattle.strlib.proofs.Refusing.{bool-case}
 use Rattle.strlib.proofs.Pointing.{either}
 use Rattle.search.proofs.Prefixes.{prefix-length, prefix-stands}
 use Rattle.search.specs.Search.{isPrefix, further, firstNumber, closed, lengthOf}
@@ -15,10 +16,9 @@ use Rattle.table.specs.Run.{wordOf}
 use Rattle.states.specs.Node.{child, Node, stop, at, reach, noteAt, nodeNote}
 use Rattle.states.specs.State.{total, before, offset, stateOf, IsNode, RowAt}
 use Rattle.states.specs.Fill.{limit, ifOpen, defaultNote, rootTo, wordOrStop, newNote, Frame, Flat, Defaulted, Children, NotePut, Default, Rowed, Short, Levels}
-use Rattle.states.proofs.Prefixes.{bool-case}
 use Rattle.states.proofs.Reaching.{live-child, reach-live, reach-step, reach-length}
 use Rattle.states.proofs.Noting.{note-reach, note-closed}
-use Rattle.states.proofs.Numbering.{before-zero, state-le, state-pos}
+use Rattle.states.proofs.Numbering.{before-zero, further-pos, state-le, state-pos}
 use Rattle.states.proofs.Targeting.{reach-target}
 
 pub same-or-not : {P : Type 0} (i j : ℕ) → (i ≡ j → P) → ((i ≡ j → ⊥) → P) → P
@@ -152,10 +152,6 @@ ChildIs ss v = (k : ℕ) × ((child ss v ≡ suc k) × (k < length ss) × (isPre
 
 child-more : (s : List ℕ) (ss : List (List ℕ)) (v : List ℕ) → isPrefix v s ≡ false → ChildIs ss v → ChildIs (s ∷ ss) v
 child-more s ss v p (m, (a, b, c)) = (suc m, (ap (λ (t : Bool). firstNumber t (child ss v)) p ∙ ap further a, omega arith, c))
-
-further-pos : (i : ℕ) → 0 < further i → 0 < i
-further-pos zero h = absurd (omega arith)
-further-pos (suc i) h = omega arith
 
 pub child-is : (ss : List (List ℕ)) (v : List ℕ) → 0 < child ss v → ChildIs ss v
 child-is [] v h = absurd (omega arith)

@@ -6,14 +6,16 @@ use mathlib.Core.List.{List, [], _∷_, _++_}
 use native.Mathlib.Omega.{arith}
 use mathlib.Core.Logic.{⊎-elim}
 use lib.ListN.{length, take}
+use Rattle.strlib.proofs.Refusing.{bool-case}
 use Rattle.search.proofs.Prefixes.{prefix-length}
 use Rattle.search.specs.Search.{isPrefix, further, closed, lengthOf}
 use Rattle.states.specs.Node.{child, Kind, live, shut, dead, kindOf, reach}
 use Rattle.states.specs.State.{offset, stateOf}
 use Rattle.states.specs.Fill.{target, limit, defaultNext}
-use Rattle.states.proofs.Prefixes.{bool-case, how, prefix-longer, prefix-same, prefix-snoc, length-snoc}
+use Rattle.states.proofs.Prefixes.{how, prefix-longer, prefix-same, prefix-snoc, length-snoc}
 use Rattle.states.proofs.Reaching.{kindOf-cons, kind-case, dead-closed, shut-closed, live-child}
 use Rattle.states.proofs.Noting.{shut-length, snoc-closed}
+use Rattle.states.proofs.Numbering.{offset-further}
 
 abbrev orLive : Kind → ℕ → ℕ → ℕ
 orLive live a d = a
@@ -28,10 +30,6 @@ orLive-same dead a b d f = refl
 limit-further : (i n : ℕ) → limit (further i) (suc n) ≡ suc (limit i n)
 limit-further zero n = refl
 limit-further (suc i) n = refl
-
-offset-more : (s : List ℕ) (ss : List (List ℕ)) (i : ℕ) → 0 < i → offset (s ∷ ss) (further i) ≡ length s + offset ss i
-offset-more s ss zero h = absurd (omega arith)
-offset-more s ss (suc i) h = refl
 
 -- a string that goes on past u does not close u
 past-not : (s u : List ℕ) (c : ℕ) → isPrefix (u ++ (c ∷ [])) s ≡ true → isPrefix s u ≡ false
@@ -56,7 +54,7 @@ target-kind (s ∷ ss) off u c d =
     (λ p q. rw (kindOf-cons, not-longer s u (c ∷ []) q, limit-further, p, q)
     (target-kind ss (off + length s) u c d
     ∙ orLive-same (kindOf ss (u ++ (c ∷ []))) _ _ d
-    (λ l. let b = offset-more s ss (child ss (u ++ (c ∷ []))) (live-child ss (u ++ (c ∷ [])) l) in omega arith)))
+    (λ l. let b = offset-further s ss (child ss (u ++ (c ∷ []))) (live-child ss (u ++ (c ∷ [])) l) in omega arith)))
 
 shut-prev : (ss : List (List ℕ)) (u : List ℕ) (c : ℕ) → kindOf ss (u ++ (c ∷ [])) ≡ shut → (k : ℕ) × (closed ss u ≡ suc k)
 shut-prev ss u c p =

@@ -9,13 +9,13 @@ use lib.ListN.{length, getD, set, length-set, drop-of-length-le}
 use lib.Seq.{getD-set-same, getD-set-other, drop-cons}
 use borrow.Author.Tests.{lt-ltb, le-ltb, eq-eqb, ne-eqb}
 use Rattle.strlib.proofs.Pointing.{either}
-use Rattle.strlib.proofs.Refusing.{and-both}
+use Rattle.strlib.proofs.Refusing.{bool-case, and-both}
 use Rattle.search.proofs.Prefixes.{prefix-length}
 use Rattle.search.specs.Search.{isPrefix}
 use Rattle.table.specs.Run.{wordOf}
 use Rattle.states.specs.State.{before}
 use Rattle.states.specs.Fill.{choose, newNote, Frame, Wrote, Filled, Copied, Flat, Defaulted, Put, Children, NotePut, Rowed}
-use Rattle.states.proofs.Prefixes.{bool-case, not-prefix-longer, length-snoc}
+use Rattle.states.proofs.Prefixes.{not-prefix-longer, length-snoc}
 use Rattle.states.proofs.Numbering.{before-suc}
 use Rattle.states.proofs.Rowing.{same-or-not}
 

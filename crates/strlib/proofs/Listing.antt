@@ -47,6 +47,21 @@ all-at f [] i d e h = absurd (omega arith)
 all-at f (x ∷ l) zero d e h = and-both (f x) (all f l) e .0
 all-at f (x ∷ l) (suc i) d e h = all-at f l i d (and-both (f x) (all f l) e .1) (omega arith)
 
+-- those of which f holds, the first of them, and those behind them
+pub all-take : {A : Type 0} (f : A → Bool) (l : List A) (k : ℕ) → all f l ≡ true → all f (take k l) ≡ true
+unfolding all
+all-take f [] zero e = refl
+all-take f [] (suc k) e = refl
+all-take f (x ∷ l) zero e = refl
+all-take f (x ∷ l) (suc k) e = let b = and-both (f x) (all f l) e in rw (b .0) (all-take f l k (b .1))
+
+pub all-drop : {A : Type 0} (f : A → Bool) (l : List A) (k : ℕ) → all f l ≡ true → all f (drop k l) ≡ true
+unfolding all
+all-drop f [] zero e = refl
+all-drop f [] (suc k) e = refl
+all-drop f (x ∷ l) zero e = e
+all-drop f (x ∷ l) (suc k) e = all-drop f l k (and-both (f x) (all f l) e .1)
+
 pub ruleset all-laws = (needs, all-step, all-stop, all-end, all-over)
 
 -- the test that a refusal's number names

@@ -10,6 +10,11 @@ use borrow.Author.Needs.{needs}
 use borrow.Author.Tests.{ltb-true}
 use Rattle.strlib.specs.Refusal.{Outcome, refused, gives, first, also, outcome, after, ruled}
 
+-- a case split that keeps the equation, usable inside a clause, so that its branches may make recursive calls
+pub bool-case : {P : Type 0} (b : Bool) → (b ≡ true → P) → (b ≡ false → P) → P
+bool-case true f g = f refl
+bool-case false f g = g refl
+
 pub and-both : (a b : Bool) → (a && b) ≡ true → (a ≡ true) × (b ≡ true)
 and-both true b e = (refl, e)
 and-both false b e = absurd (false≢true e)

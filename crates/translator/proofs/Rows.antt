@@ -7,7 +7,7 @@ use native.Mathlib.Omega.{arith}
 use borrow.Author.Needs.{needs}
 use lib.ListN.{length, take, drop, getD}
 use lib.Seq.{length-take-le}
-use Rattle.strlib.proofs.Refusing.{and-both}
+use Rattle.strlib.proofs.Listing.{all-take}
 use Rattle.strlib.proofs.Texts.{character-at}
 use Rattle.strlib.specs.Pointer.{texts, all, characters}
 use Rattle.strlib.specs.declared.StrPtr.{StrPtr}
@@ -45,13 +45,6 @@ word-some ws zero c r z e = absurd (z refl)
 word-some ws (suc q) c r z e = e
 
 -- ---- the first strings of a list
-
-all-take : {A : Type 0} (f : A → Bool) (l : List A) (k : ℕ) → all f l ≡ true → all f (take k l) ≡ true
-unfolding all
-all-take f [] zero e = refl
-all-take f [] (suc k) e = refl
-all-take f (x ∷ l) zero e = refl
-all-take f (x ∷ l) (suc k) e = let b = and-both (f x) (all f l) e in rw (b .0) (all-take f l k (b .1))
 
 total-take : (ss : List (List ℕ)) (k : ℕ) → total (take k ss) ≤ total ss
 total-take [] zero = omega arith

@@ -12,6 +12,7 @@ ghost use Rattle.cutting.specs.declared.Cut.the-variants.{Relative, Coun
 pub use parts::between_part;
 pub use parts::counted_part;
 pub use parts::desk_label;
+pub use parts::place_of;
 pub use parts::relative_part;
 pub use parts::trimmed_part;
 use strlib::StrAnswer;

@@ -19,7 +19,7 @@ fn part(bytes: &[u8], p: StrPtr) -> &[u8]
 }
 
 // Where a cut lies in a slice, which is cut as the string that it is whole.
-fn place_of(bytes: &[u8], cut: Cut) -> StrPtr
+pub fn place_of(bytes: &[u8], cut: Cut) -> StrPtr
     ensures { λ r. ⌜ r ≡ sliceCut (now (bytes .entry)) cut ⌝ }
 {
     let whole = StrPtr::full(0, bytes.len());

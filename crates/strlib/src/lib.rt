@@ -18,6 +18,8 @@ pub use strings::is_clear;
 pub use strings::text;
 
 // A string pointer of document 01: where a string starts in its store, its length, and the maximum that its room takes.
+// It crosses the C boundary as it is.
+#[repr(C)]
 pub struct StrPtr {
     pub start: usize,
     pub length: usize,

@@ -1,0 +1,171 @@
+/* Pathferrous: the calls of the string library and of the desk, for C.
+ *
+ * Every call takes any bytes, pointers and numbers and checks them itself. A refusal gives its number (README.md has the table), changes
+ * nothing that was lent, and leaves the answer's other fields 0; 0 is no refusal. Memory is lent as a pointer and a number of elements, the
+ * pointer that of so many elements. What is lent to be written (a pointer without const) shares no byte with anything else lent to the
+ * same call. Each call is proved to answer what its rule in crates/<name>/specs says.
+ */
+#ifndef STRLIB_H
+#define STRLIB_H
+
+#include <stdbool.h>
+#include <stddef.h>
+#include <stdint.h>
+
+#ifdef __cplusplus
+extern "C" {
+#endif
+
+enum {
+    STRLIB_STORE_MAX = 65536,         /* bytes in a store */
+    STRLIB_LIST_MAX = 32,             /* strings in a list */
+    STRLIB_LIST_CHARACTERS_MAX = 240, /* their characters together, where the list is translated */
+    STRLIB_TABLE_MIN = 31461,         /* words in a table's room */
+    STRLIB_BLOCK_WORDS = 128          /* words in a block of character sets */
+};
+
+/* ---- what is passed */
+
+/* A string in a store: where it starts (from 0), its length, and the maximum that its room takes. It is good if length <= maximum and
+ * start + maximum <= the store's length. */
+typedef struct { size_t start, length, maximum; } strlib_ptr;
+
+/* The first `count` of these, 0 to 32; the others are ignored. */
+typedef struct { strlib_ptr items[STRLIB_LIST_MAX]; size_t count; } strlib_list;
+
+/* Where a checkpointed join resumes: a string of the list and a character of it, both from 1. */
+typedef struct { size_t string, character; } strlib_place;
+
+/* ---- what is answered */
+
+typedef struct { uint8_t refusal; strlib_ptr string; } strlib_string;
+
+/* yes or no; -1, 0 or 1 as string 1 is shorter than, as long as or longer than string 2; the position of the first unequal pair, or 0 */
+typedef struct { uint8_t refusal; bool yes; int8_t sign; size_t split; } strlib_comparison;
+
+/* the destination with its new length; completed if nothing was cut */
+typedef struct { uint8_t refusal; bool completed; strlib_ptr to; } strlib_copied;
+
+/* the same, and where the next round resumes: (count + 1, 1) exactly when completed */
+typedef struct { uint8_t refusal; bool completed; strlib_ptr to; strlib_place next; } strlib_round;
+
+/* a part of the bytes that were lent: where it begins (from 0), and its length */
+typedef struct { size_t offset, length; } strlib_part;
+
+/* a part of the house name where `house`, else of the production name */
+typedef struct { bool house; size_t offset, length; } strlib_label;
+
+/* where found: the string's number in the list (from 1), and the host's parts. Nothing found is no refusal. */
+typedef struct { uint8_t refusal; bool found; size_t number; strlib_ptr before, matched, after; } strlib_match;
+typedef struct { uint8_t refusal; bool found; size_t number; strlib_ptr front, back; } strlib_split;
+
+/* the last note of a table's run, where there is one: string, start and end; and the number of characters read, found or not */
+typedef struct { uint8_t refusal; bool found; size_t string, pos1, pos2, read; } strlib_note;
+
+/* where found: a host character's code and position (from 1) */
+typedef struct { uint8_t refusal; bool found; uint8_t code; size_t position; } strlib_character;
+
+typedef struct { uint8_t refusal; int64_t value; } strlib_number;
+
+typedef struct { uint8_t refusal; size_t microphone, loudspeaker; int64_t gain; } strlib_cue;
+
+typedef struct { uint8_t refusal; size_t value; } strlib_size;
+
+/* where found: the trimmed name's place in the label list (from 0) and its length */
+typedef struct { uint8_t refusal; bool found; size_t place, length; } strlib_name;
+
+/* ---- pointers */
+
+bool strlib_is_good(size_t store_length, strlib_ptr string);
+
+/* ---- comparing: refusals 3, 1, 2
+ * code 0 equal, 1 not equal, 2 greater or equal, 3 less or equal, 4 greater, 5 less; style 0 padded, 1 exact, 2 ignore;
+ * translation -127 to 127, added to every character of string 2 */
+
+strlib_comparison strlib_compare(const uint8_t *store, size_t store_length, strlib_ptr string1, strlib_ptr string2, size_t code, size_t style,
+                                 int64_t translation);
+
+/* ---- cutting: refusals 3, 1, 4; trim 3, 1, 2 */
+
+strlib_string strlib_relative(const uint8_t *store, size_t store_length, strlib_ptr string, size_t offset);
+strlib_string strlib_counted(const uint8_t *store, size_t store_length, strlib_ptr string, size_t position, size_t count);
+strlib_string strlib_between(const uint8_t *store, size_t store_length, strlib_ptr string, size_t pos1, size_t pos2); /* pos2 = 0: length + 1 */
+strlib_string strlib_trim(const uint8_t *store, size_t store_length, strlib_ptr string);
+
+/* The same cuts of plain bytes of any length: no refusal; bad positions give the empty part at the front. */
+strlib_part strlib_relative_part(const uint8_t *bytes, size_t bytes_length, size_t offset);
+strlib_part strlib_counted_part(const uint8_t *bytes, size_t bytes_length, size_t position, size_t count);
+strlib_part strlib_between_part(const uint8_t *bytes, size_t bytes_length, size_t pos1, size_t pos2);
+strlib_part strlib_trimmed_part(const uint8_t *bytes, size_t bytes_length);
+
+/* The label shown on the desk: the trimmed production name, or the trimmed house name where that is blank or empty. */
+strlib_label strlib_desk_label(const uint8_t *production, size_t production_length, const uint8_t *house, size_t house_length);
+
+/* ---- copying: refusals 3, 1, 2, 5; join_from 3, 1, 2, 4, 5
+ * The destination then holds the characters cut at its maximum; every byte past its new length stays. With `pad`, blanks fill it to its old
+ * length. */
+
+strlib_copied strlib_copy(uint8_t *store, size_t store_length, strlib_ptr destination, strlib_ptr source, bool pad);
+strlib_copied strlib_append(uint8_t *store, size_t store_length, strlib_ptr destination, strlib_ptr source);
+strlib_copied strlib_join(uint8_t *store, size_t store_length, strlib_ptr destination, strlib_list list, bool pad);
+strlib_round strlib_join_from(uint8_t *store, size_t store_length, strlib_ptr destination, strlib_list list, strlib_place from);
+
+/* ---- editing: replace 3, 1, 2, 4, 5, 6; reverse 3, 1, 2; reverse_from 3, 1, 2, 5, 6 */
+
+/* string 2, a part of string 1 by place, is replaced by string 3; an empty string 2 inserts */
+strlib_string strlib_replace(uint8_t *store, size_t store_length, strlib_ptr string1, strlib_ptr string2, strlib_ptr string3);
+strlib_string strlib_reverse(uint8_t *store, size_t store_length, strlib_ptr string);
+strlib_string strlib_reverse_from(uint8_t *store, size_t store_length, strlib_ptr destination, strlib_ptr source);
+
+/* ---- searching: refusals 3, 1, 2. The earliest start, and of strings starting there the first listed. */
+
+strlib_match strlib_search(const uint8_t *store, size_t store_length, strlib_ptr host, strlib_list list);
+strlib_split strlib_search_match_after(const uint8_t *store, size_t store_length, strlib_ptr host, strlib_list list);  /* before | match, after */
+strlib_split strlib_search_before_match(const uint8_t *store, size_t store_length, strlib_ptr host, strlib_list list); /* before, match | after */
+
+/* ---- the search table: translate once (refusals 3, 1, 2, 9), run over any number of hosts (3, 1, 2, 10) */
+
+uint8_t strlib_translate(const uint8_t *store, size_t store_length, strlib_list list, uint16_t *table, size_t table_length);
+strlib_note strlib_run(const uint8_t *store, size_t store_length, strlib_ptr host, const uint16_t *table, size_t table_length);
+
+/* ---- character sets: refusals 3, and 1, 2 where there is a string
+ * A block is exactly 128 words, one a character; a mask, under 2^36, names tables by its bits. */
+
+uint8_t strlib_clear_tables(uint64_t *block, size_t block_length, uint64_t mask);
+uint8_t strlib_fill_tables(uint64_t *block, size_t block_length, uint64_t mask);
+uint8_t strlib_add_characters(const uint8_t *store, size_t store_length, strlib_ptr string, uint64_t *block, size_t block_length, uint64_t mask);
+uint8_t strlib_remove_characters(const uint8_t *store, size_t store_length, strlib_ptr string, uint64_t *block, size_t block_length, uint64_t mask);
+strlib_character strlib_find_first(const uint8_t *store, size_t store_length, strlib_ptr host, const uint64_t *block, size_t block_length,
+                                   uint64_t mask);
+strlib_character strlib_find_last(const uint8_t *store, size_t store_length, strlib_ptr host, const uint64_t *block, size_t block_length,
+                                  uint64_t mask);
+
+/* ---- numbers: base 2 to 10, -34359738368 to 34359738367; reading 3, 1, 2, 7, 8; writing 3, 1, 8, 6 */
+
+strlib_number strlib_read_number(const uint8_t *store, size_t store_length, strlib_ptr string, size_t base);
+strlib_string strlib_write_number(uint8_t *store, size_t store_length, strlib_ptr destination, int64_t value, size_t base);
+
+/* ---- the desk */
+
+/* `MIC n TO LSP m GAIN g`, for a matrix of 1 to 64 by 1 to 128: refusals 3, 2, 11, then 7 or 8 from left to right, 12 */
+strlib_cue strlib_read_cue(const uint8_t *line, size_t line_length, size_t microphones, size_t loudspeakers);
+
+/* how many records: refusals, record by record, 11 (kind, short body), 12, 2, 11 (repeated) */
+strlib_size strlib_read_labels(const uint8_t *list, size_t list_length);
+
+/* kind 1 microphone, 2 loudspeaker: the list's refusals, then 11 (kind), 12 */
+strlib_name strlib_find_label(const uint8_t *list, size_t list_length, uint8_t kind, size_t number);
+
+/* the same as a part: on a refusal or no record the empty part at the front */
+strlib_part strlib_label_name(const uint8_t *list, size_t list_length, uint8_t kind, size_t number);
+
+/* adds a record behind the list that is the buffer's first `length` bytes; the value is the list's new length. Refusals: 4 (length over the
+ * buffer's), the list's, 11 (kind), 12, 4 (name over 16), 2, 11 (repeated), 6 */
+strlib_size strlib_add_label(uint8_t *buffer, size_t buffer_length, size_t length, uint8_t kind, size_t number, const uint8_t *name,
+                             size_t name_length);
+
+#ifdef __cplusplus
+}
+#endif
+
+#endif

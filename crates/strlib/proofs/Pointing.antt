@@ -1,8 +1,8 @@
 -- Laws of one pointer: the tests of the code are those of the definitions. Assumes nothing.
 use mathlib.Core.Path.{_≡_, refl, sym, _∙_}
-use mathlib.Core.Bool.{Bool, true, false, _&&_, and-false}
+use mathlib.Core.Bool.{Bool, true, false, _&&_, and-true, and-false, and-assoc}
 use mathlib.Core.List.{List, [], _∷_}
-use Prim.Native.Nat.{ℕ, _+_, _-_, _≤_, _<_, min, max}
+use Prim.Native.Nat.{ℕ, suc, _+_, _-_, _≤_, _<_, min, max}
 use native.Mathlib.Nat.{sub-self}
 use native.Mathlib.Numerals.{add-one}
 use native.Mathlib.Omega.{arith}
@@ -95,18 +95,27 @@ module _ (a m b n : ℕ) where
 
 -- ---- the characters of a string
 
-module _ (s : List ℕ) (i : ℕ) (e : characters s ≡ characters (drop i s)) where
-  pub characters-step : i < length s → getD s i 0 ≤ 127 → characters s ≡ characters (drop (i + 1) s)
-  unfolding characters all
-  characters-step h k = e ∙ rw (add-one, drop-cons s i 0 h) (simp (le-leb (getD s i 0) 127 k))
+leb-max : (a b n : ℕ) → leb (max a b) n ≡ (leb a n && leb b n)
+leb-max a b n =
+    either b n (λ h. leb-same (max a b) n a n (λ z. omega arith) (λ z. omega arith) ∙ sym (rw (le-leb b n h, and-true)))
+    (λ h. lt-leb (max a b) n (omega arith) ∙ sym (rw (lt-leb b n h, and-false)))
 
-  pub characters-stop : i < length s → 127 < getD s i 0 → false ≡ characters s
-  unfolding characters all
-  characters-stop h k = sym (e ∙ rw (drop-cons s i 0 h) (simp (lt-leb (getD s i 0) 127 k)))
+-- bytes of which the greatest is g, and then xs, are all characters
+unfoldable pub charactersWith : ℕ → List ℕ → Bool
+charactersWith g xs = leb g 127 && characters xs
 
-  pub characters-end : length s ≤ i → true ≡ characters s
-  unfolding characters all
-  characters-end k = sym (e ∙ rw drop-of-length-le)
+pub characters-start : (s : List ℕ) → characters s ≡ charactersWith 0 (drop 0 s)
+unfolding charactersWith
+characters-start s = refl
+
+module _ (s : List ℕ) (i g : ℕ) (e : characters s ≡ charactersWith g (drop i s)) where
+  pub characters-step : i < length s → (m : ℕ) → m ≡ max g (getD s i 0) → characters s ≡ charactersWith m (drop (i + 1) s)
+  unfolding charactersWith characters all
+  characters-step h m d = e ∙ rw (add-one, drop-cons s i 0 h, d, leb-max g (getD s i 0) 127) (sym (and-assoc (leb g 127) (leb (getD s i 0) 127) (characters (drop (suc i) s))))
+
+  pub characters-end : length s ≤ i → leb g 127 ≡ characters s
+  unfolding charactersWith characters all
+  characters-end k = sym (e ∙ rw (drop-of-length-le s k, and-true))
 
 module _ (s : List ℕ) (p : StrPtr) where
   pub text-past : length s < p .start → take (length s - length s) (drop (length s) s) ≡ textOf s p
@@ -127,4 +136,4 @@ pub ruleset good-laws = (needs, good-short, good-over, good-last)
 
 pub ruleset apart-laws = (needs, apart-none-a, apart-behind, apart-none-b, apart-before)
 
-pub ruleset text-laws = (needs, text-past, text-over, text-in, characters-step, characters-stop, characters-end)
+pub ruleset text-laws = (needs, text-past, text-over, text-in, characters-start, characters-step, characters-end)

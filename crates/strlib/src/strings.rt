@@ -1,20 +1,26 @@
 // What a pointer names in a store. Each function takes any pointer, good or not.
 use super::StrPtr;
 ghost use mathlib.Core.Path.{_≡_};
+ghost use Prim.Native.Nat.{max};
 ghost use Rattle.strlib.specs.Pointer.{textOf, characters, readable, apart, clear};
 
-// Whether each byte is a character, 0 to 127.
+// Whether each byte is a character, 0 to 127. The greatest byte tells; a loop that never leaves early is compiled to take many bytes at a time.
 pub fn are_characters(bytes: &[u8]) -> bool
     ensures { λ r. ⌜ r ≡ characters (now (bytes .entry)) ⌝ }
 {
+    let mut greatest = 0;
     let mut i = 0;
     while i < bytes.len() {
-        if StrPtr::CHARACTER_MAX < bytes[i] {
-            return false;
-        }
+        greatest = larger(greatest, bytes[i]);
         i += 1;
     }
-    true
+    greatest <= StrPtr::CHARACTER_MAX
+}
+
+fn larger(a: u8, b: u8) -> u8
+    ensures { λ r. ⌜ r ≡ max a b ⌝ }
+{
+    if a < b { b } else { a }
 }
 
 // The characters of a string; of a pointer that is not good, what of them lies in the store.

@@ -17,10 +17,8 @@ use Rattle.strlib.specs.Refusal.{Outcome, refused, gives, first, outcome}
 use Rattle.strlib.specs.declared.StrPtr.{StrPtr}
 use Rattle.search.specs.Search.{Result, nothing, found}
 use Rattle.table.specs.Run.{sizeOf, wordOf, isSized, Walk, bad, rests, onlyIf, noted, enter, step, walk, runOver, isRest, ranOf, runRefusal, runRule}
-use Rattle.table.specs.Inner.{noteOf, restsOf, walkedOf, Entered, beforeChecks, beforeRun, ended}
+use Rattle.table.specs.Inner.{noteBy, noteOf, restsOf, walkedOf, Entered, beforeChecks, beforeRun, ended}
 use Rattle.table.specs.declared.Note.{Note}
-use Rattle.table.specs.declared.Noted.{Noted}
-use Rattle.table.specs.declared.Noted.the-variants.{None, At}
 use Rattle.table.specs.declared.Progress.{Progress}
 use Rattle.table.specs.declared.Walked.{Walked}
 use Rattle.table.specs.declared.Walked.the-variants.{Rests, Bad}
@@ -29,6 +27,15 @@ use Rattle.table.proofs.Walking.{enter-pos, step-pos, walk-bad, walk-st
 positive : (q : ℕ) → (q ≡ 0 → ⊥) → 0 < q
 positive zero y = absurd (y refl)
 positive (suc q) y = omega arith
+
+note-by : (g a b : ℕ) → (g ≡ 0 → ⊥) → noteBy g a b ≡ found g a b
+unfolding noteBy
+note-by zero a b y = absurd (y refl)
+note-by (suc g) a b y = refl
+
+note-none : (g a b : ℕ) → g ≡ 0 → noteBy g a b ≡ nothing
+unfolding noteBy
+note-none g a b e = rw e
 
 -- ---- state q is entered with n characters read and the note r; g and k are what was read of its words
 
@@ -59,8 +66,8 @@ module _ (ws : List ℕ) (q n : ℕ) (r : Result) where
           go zero y b = absurd (y refl)
           go (suc x) y b = rw (le-leb (suc x) 32 b, lt-leb k n h)
 
-      pub enter-good : k ≤ n → rests q n (found g (n - k + 1) (n + 1)) ≡ enter ws q n r
-      enter-good h = go g z s ∙ ap (λ (l : ℕ). noted q g l n r) d ∙ sym entered
+      pub enter-good : k ≤ n → rests q n (noteBy g (n - k + 1) (n + 1)) ≡ enter ws q n r
+      enter-good h = ap (rests q n) (note-by g (n - k + 1) (n + 1) z) ∙ go g z s ∙ ap (λ (l : ℕ). noted q g l n r) d ∙ sym entered
         where
           go : (x : ℕ) → (x ≡ 0 → ⊥) → x ≤ 32 → rests q n (found x (n - k + 1) (n + 1)) ≡ noted q x k n r
           go zero y b = absurd (y refl)
@@ -179,10 +186,13 @@ module _ (ws h : List ℕ) (size : ℕ) (e : size ≡ sizeOf ws) (y : isSized ws
   pub start-entered : Entered ws size 1 0
   start-entered = let z = sized-is ws y in record { state = omega (arith, z .low); long = omega (arith, z .long); near = omega arith }
 
-  module _ (s : Walked) (d : walkedOf s ≡ enter ws 1 0 nothing) where
+  module _ (s : Walked) (d : walkedOf s ≡ enter ws 1 0 (noteBy 0 0 0)) where
+    begun : walkedOf s ≡ enter ws 1 0 nothing
+    begun = d ∙ rw (note-none 0 0 0 refl)
+
     over : walk ws size h (walkedOf s) ≡ runOver ws h
     unfolding runOver
-    over = rw (← e, d)
+    over = rw (← e, begun)
 
     pub start-bad : s ≡ Bad → bad ≡ runOver ws h
     start-bad z = sym (walk-bad ws size h) ∙ ap (λ (x : Walked). walk ws size h (walkedOf x)) (sym z) ∙ over
@@ -193,7 +203,7 @@ module _ (ws h : List ℕ) (size : ℕ) (e : size ≡ sizeOf ws) (y : isSized ws
     pub start-near : length h ≤ 65536 → (p : Progress) → s ≡ Rests p → Entered ws size (p .state) (p .read + length h)
     start-near l p z =
         let k = start-entered in
-        let q = landed size 0 p (enter ws 1 0 nothing) (sym (ap walkedOf z) ∙ d) (in-enter ws size 1 0 0 nothing (k .state) (omega arith)) in
+        let q = landed size 0 p (enter ws 1 0 nothing) (sym (ap walkedOf z) ∙ begun) (in-enter ws size 1 0 0 nothing (k .state) (omega arith)) in
         record { state = q .0; long = k .long; near = omega (arith, q .1) }
 
 pub start-first : (ws : List ℕ) → isSized ws ≡ true → 0 < length ws
@@ -208,11 +218,11 @@ module _ (w : Walked) where
   ended-bad e = rw e
 
   module _ (p : Progress) (e : w ≡ Rests p) where
-    pub ended-none : p .last ≡ None → gives (nothing, p .read) ≡ ended (walkedOf w)
-    ended-none d = rw e (ap (λ (m : Noted). gives (noteOf m, p .read)) (sym d))
+    pub ended-none : p .last .string ≡ 0 → gives (nothing, p .read) ≡ ended (walkedOf w)
+    ended-none d = rw e (ap (λ (r : Result). gives (r, p .read)) (sym (note-none (p .last .string) (p .last .pos1) (p .last .pos2) d)))
 
-    pub ended-at : (m : Note) → p .last ≡ At m → gives (found (m .string) (m .pos1) (m .pos2), p .read) ≡ ended (walkedOf w)
-    ended-at m d = rw e (ap (λ (m : Noted). gives (noteOf m, p .read)) (sym d))
+    pub ended-at : (p .last .string ≡ 0 → ⊥) → gives (found (p .last .string) (p .last .pos1) (p .last .pos2), p .read) ≡ ended (walkedOf w)
+    ended-at d = rw e (ap (λ (r : Result). gives (r, p .read)) (sym (note-by (p .last .string) (p .last .pos1) (p .last .pos2) d)))
 
 pub ruleset ended-laws = (needs, ended-bad, ended-none, ended-at)
 

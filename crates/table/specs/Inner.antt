@@ -1,5 +1,5 @@
 -- What the functions inside the crate promise one another. Assumes nothing.
-use Prim.Native.Nat.{ℕ, _+_, _*_, _≤_, _<_}
+use Prim.Native.Nat.{ℕ, zero, suc, _+_, _*_, _≤_, _<_}
 use mathlib.Core.Bool.{Bool}
 use mathlib.Core.List.{List, [], _∷_}
 use lib.ListN.{length}
@@ -8,16 +8,18 @@ use Rattle.strlib.specs.Refusal.{Outcome, refused, gives, first}
 use Rattle.strlib.specs.declared.StrPtr.{StrPtr}
 use Rattle.search.specs.Search.{Result, nothing, found}
 use Rattle.table.specs.Run.{isSized, Walk, bad, rests}
-use Rattle.table.specs.declared.Noted.{Noted}
-use Rattle.table.specs.declared.Noted.the-variants.{None, At}
+use Rattle.table.specs.declared.Note.{Note}
 use Rattle.table.specs.declared.Progress.{Progress}
 use Rattle.table.specs.declared.Walked.{Walked}
 use Rattle.table.specs.declared.Walked.the-variants.{Rests, Bad}
 
--- the code's values in the rule's words
-abbrev pub noteOf : Noted → Result
-noteOf None = nothing
-noteOf (At m) = found (m .string) (m .pos1) (m .pos2)
+-- the code's values in the rule's words: a note of string 0 is none
+unfoldable pub noteBy : ℕ → ℕ → ℕ → Result
+noteBy zero pos1 pos2 = nothing
+noteBy (suc j) pos1 pos2 = found (suc j) pos1 pos2
+
+abbrev pub noteOf : Note → Result
+noteOf m = noteBy (m .string) (m .pos1) (m .pos2)
 
 abbrev pub restsOf : Progress → Walk
 restsOf p = rests (p .state) (p .read) (noteOf (p .last))

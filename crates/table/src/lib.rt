@@ -16,17 +16,12 @@ pub struct Note {
     pub pos2: usize,
 }
 
-// The last note, if there is one.
-pub enum Noted {
-    None,
-    At(Note),
-}
-
-// Where a run rests: the state that it has entered (0: it stopped), the number read, the last note.
+// Where a run rests: the state that it has entered (0: it stopped), the number read, the last note (string 0: none). An enum for the note would be
+// copied from step to step, its unused bytes too.
 pub struct Progress {
     pub state: usize,
     pub read: usize,
-    pub last: Noted,
+    pub last: Note,
 }
 
 // Where a run rests, or that it met words that are no table.
@@ -84,11 +79,11 @@ fn enter(table: &[u16], size: usize, at: Progress) -> Walked
     Walked::Rests(Progress {
         state: q,
         read: n,
-        last: Noted::At(Note {
+        last: Note {
             string: f,
             pos1: n - l + 1,
             pos2: n + 1,
-        }),
+        },
     })
 }
 

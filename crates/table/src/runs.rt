@@ -1,4 +1,4 @@
-use super::Noted;
+use super::Note;
 use super::Progress;
 use super::RunAnswer;
 use super::Walked;
@@ -60,7 +60,11 @@ fn run_over(text: &[u8], table: &[u16]) -> Walked
         Progress {
             state: 1,
             read: 0,
-            last: Noted::None,
+            last: Note {
+                string: 0,
+                pos1: 0,
+                pos2: 0,
+            },
         },
     );
     let Walked::Rests(at) = s else {
@@ -77,10 +81,10 @@ fn ended(walked: Walked) -> RunAnswer
     };
     let last = at.last;
     let read = at.read;
-    match last {
-        Noted::None => RunAnswer::Nothing(read),
-        Noted::At(note) => RunAnswer::Found(note, read),
+    if last.string == 0 {
+        return RunAnswer::Nothing(read);
     }
+    RunAnswer::Found(last, read)
 }
 
 // The run of a table over a host.

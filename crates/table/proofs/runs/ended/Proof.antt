@@ -10,6 +10,4 @@ ended-spec =
     (λ c. search ended-laws)
     (λ c. search ended-laws)
     (λ c. search ended-laws)
-    (λ c. search ended-laws)
-    (λ c. search ended-laws)
     (λ c. search ended-laws))

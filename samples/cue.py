@@ -1,0 +1,15 @@
+# Reads cue lines through the shared library: the microphone, the loudspeaker and the gain in tenths of a decibel, or a refusal's number.
+import ctypes as c
+import sys
+
+
+class Cue(c.Structure):  # strlib_cue of include/strlib.h
+    _fields_ = [("refusal", c.c_uint8), ("microphone", c.c_size_t), ("loudspeaker", c.c_size_t), ("gain", c.c_int64)]
+
+
+read_cue = c.CDLL(sys.argv[1]).strlib_read_cue
+read_cue.argtypes, read_cue.restype = [c.c_char_p, c.c_size_t, c.c_size_t, c.c_size_t], Cue
+for line in sys.stdin.buffer:
+    line = line.removesuffix(b"\n")
+    cue = read_cue(line, len(line), 64, 128)
+    print(f"refused {cue.refusal}" if cue.refusal else f"ok {cue.microphone} {cue.loudspeaker} {cue.gain}")

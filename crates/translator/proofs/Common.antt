@@ -1,6 +1,6 @@
 -- Laws of how far texts are alike: counting it, the numbers of all strings, and what a number tells of a prefix. Assumes nothing.
-use mathlib.Core.Path.{_≡_, refl, sym, ap, _∙_}
-use mathlib.Core.Bool.{Bool, true, false, _&&_, and-false}
+use mathlib.Core.Path.{_≡_, sym, ap, _∙_}
+use mathlib.Core.Bool.{_&&_, and-false}
 use mathlib.Core.List.{List, [], _∷_}
 use Prim.Native.Nat.{ℕ, zero, suc, _+_, _-_, _*_, _≤_, _<_}
 use native.Mathlib.Nat.{zero-add}
@@ -66,7 +66,7 @@ module _ (s : List ℕ) (list : List StrPtr) (count : ℕ) (few : count ≤ 32) 
         let w = p .wrote .frame .len in
         record {
           wrote = wrote-more ns ns′ base k n (λ i. common (getD (listed s list count) i []) x) (p .wrote) (omega arith)
-          (en ∙ ap (λ (t : List ℕ). common t x) (ey ∙ sym (listed-at s list count few size k d h)));
+              (en ∙ ap (λ (t : List ℕ). common t x) (ey ∙ sym (listed-at s list count few size k d h)));
         }
 
     pub alike-none : (ns : List ℕ) → length ns ≡ 1024 → Alike (listed s list count) ns 0

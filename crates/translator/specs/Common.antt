@@ -1,4 +1,4 @@
--- How far the listed strings are alike: found once, so that no row compares characters anew. Assumes nothing.
+-- How far the listed strings are alike, and what this tells of the prefixes that have rows. Assumes nothing.
 use Prim.Native.Nat.{ℕ, suc, _+_, _*_, _≤_, _<_}
 use mathlib.Core.Path.{_≡_}
 use mathlib.Core.Bool.{cond, _&&_}
@@ -14,16 +14,16 @@ common [] y = 0
 common (a ∷ x) [] = 0
 common (a ∷ x) (b ∷ y) = cond (eqb a b) (suc (common x y)) 0
 
--- the number for each of the first n strings and x, from base on
+-- the numbers of x were put, for the first n strings, from base on
 pub record NumbersPut (ss : List (List ℕ)) (ns ns′ : List ℕ) (base n : ℕ) (x : List ℕ) : Type 0 where
   pub wrote : Wrote ns ns′ base n (λ k. common (getD ss k []) x)
 
--- 32 numbers for each of the first n strings: string k begins as string j does with as many characters as stands at 32 * j + k
+-- the numbers of the first n strings, 32 each: at 32 * j + k, how many characters strings k and j begin alike with
 pub record Alike (ss : List (List ℕ)) (ns : List ℕ) (n : ℕ) : Type 0 where
   pub long : length ns ≡ 1024
   pub numbers : (j k : ℕ) → j < n → k < length ss → getD ns (32 * j + k) 0 ≡ common (getD ss k []) (getD ss j [])
 
--- the numbers of one of the strings, x
+-- the numbers of x: at k, how many characters string k and x begin alike with
 pub record AlikeTo (ss : List (List ℕ)) (ns x : List ℕ) : Type 0 where
   pub long : 32 ≤ length ns
   pub numbers : (k : ℕ) → k < length ss → getD ns k 0 ≡ common (getD ss k []) x

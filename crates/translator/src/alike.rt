@@ -1,4 +1,5 @@
-// How many characters the listed strings begin alike with, two and two. A row's prefix is then compared with a string by one number.
+// How many characters each two listed strings begin alike with. It is found once: a row then compares its text with a string by numbers, and time
+// does not grow with the square of a string's length.
 use strlib::StrList;
 use strlib::StrPtr;
 ghost use mathlib.Core.Path.{_≡_};
@@ -7,6 +8,7 @@ ghost use lib.ListN.{length};
 ghost use Rattle.translator.specs.Translate.{listed};
 ghost use Rattle.translator.specs.Common.{common, NumbersPut, Alike};
 
+// How many characters x and y begin alike with.
 fn common_of(x: &[u8], y: &[u8]) -> usize
     ensures { λ r. ⌜ r ≡ common (now (x .entry)) (now (y .entry)) ⌝ }
 {

@@ -35,10 +35,10 @@ pub frame-wider : (ws ws′ : List ℕ) (base n m : ℕ) → Frame ws ws′ base
 frame-wider ws ws′ base n m f h = record { len = f .len; low = f .low; high = λ i l. f .high i (omega arith) }
 
 -- words written from the front
-wrote-none : (ws : List ℕ) (base : ℕ) (f : ℕ → ℕ) → Wrote ws ws base 0 f
+pub wrote-none : (ws : List ℕ) (base : ℕ) (f : ℕ → ℕ) → Wrote ws ws base 0 f
 wrote-none ws base f = record { frame = frame-none ws base 0; here = λ c h. absurd (omega arith) }
 
-wrote-more : (ws ws′ : List ℕ) (base n v : ℕ) (f : ℕ → ℕ) → Wrote ws ws′ base n f → base + n < length ws′ → v ≡ f n → Wrote ws (set ws′ (base + n) v) base (n + 1) f
+pub wrote-more : (ws ws′ : List ℕ) (base n v : ℕ) (f : ℕ → ℕ) → Wrote ws ws′ base n f → base + n < length ws′ → v ≡ f n → Wrote ws (set ws′ (base + n) v) base (n + 1) f
 wrote-more ws ws′ base n v f w h e =
     record {
       frame = frame-set ws ws′ base (n + 1) (base + n) v (frame-wider ws ws′ base n (n + 1) (w .frame) (omega arith)) (omega arith) (omega arith);
@@ -127,17 +127,17 @@ module _ (ws : List ℕ) (base v : ℕ) (u x : List ℕ) where
   pub put-short : length x ≤ length u → Put ws ws base v u x
   put-short h = record { wrote = record { frame = frame-none ws base 128; here = λ c l. rw (on-short u x c h) } }
 
-  pub put-not : (b : Bool) → b ≡ isPrefix u x → b ≡ false → Put ws ws base v u x
-  put-not b e p = record { wrote = record { frame = frame-none ws base 128; here = λ c l. rw (not-prefix-longer u (c ∷ []) x (sym e ∙ p)) } }
+  pub put-not : isPrefix u x ≡ false → Put ws ws base v u x
+  put-not p = record { wrote = record { frame = frame-none ws base 128; here = λ c l. rw (not-prefix-longer u (c ∷ []) x p) } }
 
-  pub put-set : (b : Bool) (d : ℕ) → b ≡ isPrefix u x → b ≡ true → length u < length x → d ≡ getD x (length u) 0 → d < 128 → base + 128 ≤ length ws → Put ws (set ws (base + d) v) base v u x
-  put-set b d e p h k m n =
+  pub put-set : (d : ℕ) → isPrefix u x ≡ true → length u < length x → d ≡ getD x (length u) 0 → d < 128 → base + 128 ≤ length ws → Put ws (set ws (base + d) v) base v u x
+  put-set d p h k m n =
       record {
         wrote = record {
           frame = frame-set ws ws base 128 (base + d) v (frame-none ws base 128) (omega arith) (omega arith);
           here = λ c l. same-or-not c d
-              (λ q. rw (on-at u x c (sym e ∙ p) h, eq-eqb c (getD x (length u) 0) (q ∙ k), q, getD-set-same ws (base + d) v 0 (omega arith)))
-              (λ q. rw (on-at u x c (sym e ∙ p) h, ne-eqb c (getD x (length u) 0) (λ r. q (r ∙ sym k)), getD-set-other ws (base + d) (base + c) v 0 (λ r. q (omega arith))));
+              (λ q. rw (on-at u x c p h, eq-eqb c (getD x (length u) 0) (q ∙ k), q, getD-set-same ws (base + d) v 0 (omega arith)))
+              (λ q. rw (on-at u x c p h, ne-eqb c (getD x (length u) 0) (λ r. q (r ∙ sym k)), getD-set-other ws (base + d) (base + c) v 0 (λ r. q (omega arith))));
         };
       }
 

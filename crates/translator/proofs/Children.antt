@@ -15,8 +15,10 @@ use Rattle.states.proofs.Numbering.{before-suc, before-le, before-total}
 use Rattle.states.proofs.Writing.{children-none, children-more, children-all}
 use Rattle.states.specs.State.{total, before}
 use Rattle.states.specs.Fill.{Put, Children}
+use Rattle.translator.proofs.Common.{tells-long, tells-one}
 use Rattle.translator.proofs.Listing.{listed-length, listed-at}
 use Rattle.translator.specs.Translate.{listed}
+use Rattle.translator.specs.Common.{Tells, TellsAll}
 
 module _ (s : List ℕ) (list : List StrPtr) (m : ℕ) (few : m ≤ 32) (size : length list ≡ 32) where
   pub child-all : (n : ℕ) → n ≡ total (listed s list m) → n ≡ before (listed s list m) m
@@ -45,6 +47,9 @@ module _ (s : List ℕ) (list : List StrPtr) (m : ℕ) (few : m ≤ 32) (size : 
     pub child-plain : all characters (listed s list m) ≡ true → characters x ≡ true
     child-plain a = ap characters is ∙ all-at characters (listed s list m) (k - 1) [] a (omega (arith, listed-length s list m few size))
 
+    pub child-tells : (ns u : List ℕ) → TellsAll ns u (listed s list m) → Tells (getD ns (k - 1) 0) u x
+    child-tells ns u t = tells-one s list m few size ns u t (k - 1) x d (omega arith) p
+
     pub child-step : (ws ws₁ ws₂ : List ℕ) (base v : ℕ) (u : List ℕ) → Children ws ws₁ base u (listed s list m) k → v ≡ n - length x + length u + 2
         → Put ws₁ ws₂ base v u x → Children ws ws₂ base u (listed s list m) (k - 1)
     child-step ws ws₁ ws₂ base v u a b c =
@@ -60,4 +65,4 @@ module _ (s : List ℕ) (list : List StrPtr) (m : ℕ) (few : m ≤ 32) (size : 
       pub child-narrow : n - length x + l + 2 ≤ 65535
       child-narrow = omega (arith, before-le (listed s list m) k)
 
-pub ruleset children-laws = (needs, child-all, child-none, child-room, child-back, child-plain, child-step, child-fits, child-fits-2, child-narrow, children-all)
+pub ruleset children-laws = (needs, child-all, child-none, child-room, child-back, child-plain, child-step, child-fits, child-fits-2, child-narrow, children-all, child-tells, tells-long)

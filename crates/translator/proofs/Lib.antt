@@ -1,4 +1,5 @@
 pub mod Listing
+pub mod Common
 pub mod Writers
 pub mod Children
 pub mod Rows

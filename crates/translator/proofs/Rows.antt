@@ -1,6 +1,6 @@
 -- Laws of a row: its default, the strings that go on, the note. Assumes nothing.
 use mathlib.Core.Path.{_≡_, refl, sym, ap, _∙_}
-use mathlib.Core.Bool.{Bool, true}
+use mathlib.Core.Bool.{true}
 use mathlib.Core.List.{List, [], _∷_}
 use Prim.Native.Nat.{ℕ, zero, suc, _+_, _-_, _*_, _≤_, _<_}
 use native.Mathlib.Omega.{arith}
@@ -19,8 +19,10 @@ use Rattle.states.proofs.Rowing.{row-of, default-of, default-root}
 use Rattle.states.proofs.Writing.{rowed-default, rowed-flat}
 use Rattle.states.specs.State.{total}
 use Rattle.states.specs.Fill.{limit, ifOpen, rootTo, wordOrStop, Flat, Defaulted, Children, NotePut, Rowed, Stepped}
+use Rattle.translator.proofs.Common.{tells-first, tells-root, tells-take}
 use Rattle.translator.proofs.Listing.{listed-length, listed-take, length-listed}
 use Rattle.translator.specs.Translate.{listed}
+use Rattle.translator.specs.Common.{TellsAll}
 use Rattle.translator.specs.Inner.{Ready, Open, Next, Turn}
 
 pub open-not : (k n : ℕ) → (k ≡ 0 → ⊥) → 0 ≡ ifOpen k n
@@ -82,6 +84,9 @@ module _ (s : List ℕ) (list : List StrPtr) (count : ℕ) (ws : List ℕ) (r : 
 
       pub finish-small : total (listed s list m) ≤ 240
       finish-small = let t : total (listed s list m) ≤ total (listed s list count) = (rw first-m at (total-take (listed s list count) m)) in omega arith
+
+      pub finish-tells : (ns : List ℕ) → TellsAll ns u (listed s list count) → TellsAll ns u (listed s list m)
+      finish-tells ns t = tells-first s list count (r .few) size ns u t m m-le
 
       pub finish-row : (n : ℕ) (ws₁ ws₂ : List ℕ) → n ≡ lengthOf (texts s list) closing → Children ws ws₁ (1 + 130 * q) u (listed s list m) 0 → NotePut ws₁ ws₂ q closing n (length u)
           → Rowed (listed s list count) ws ws₂ q u
@@ -149,10 +154,10 @@ module _ (s : List ℕ) (list : List StrPtr) (count : ℕ) (ws : List ℕ) (r : 
 
 pub ruleset small-laws = (needs, open-not, limit-not, root-one, root-shut, word-some)
 
-pub ruleset finish-laws = (needs, finish-closing, finish-few, finish-plain, finish-small, finish-row)
+pub ruleset finish-laws = (needs, finish-closing, finish-few, finish-plain, finish-small, finish-tells, finish-row)
 
 pub ruleset next-laws = (needs, next-from, next-ready, rowed-default)
 
-pub ruleset root-laws = (needs, root-ready, rowed-flat)
+pub ruleset root-laws = (needs, root-ready, rowed-flat, tells-root)
 
-pub ruleset turn-laws = (needs, length-take-le, turn-short, turn-fail, turn-next, turn-done)
+pub ruleset turn-laws = (needs, length-take-le, turn-short, turn-fail, turn-next, turn-done, tells-take)

@@ -9,6 +9,7 @@ ghost use Rattle.states.specs.State.{total, RowAt};
 ghost use Rattle.states.specs.Fill.{Stepped, Levels};
 ghost use Rattle.translator.specs.Translate.{listed, translateRefusal, translated, Table, Translated};
 ghost use Rattle.translator.specs.Inner.{Ready, Turn, Leveled, Rows, listRefusal};
+ghost use Rattle.translator.specs.Common.{Alike, AlikeTo};
 
 // The row of the first l characters of x, if there are so many. Gives the state of the tail of one character more.
 fn fill_state(
@@ -16,19 +17,20 @@ fn fill_state(
     list: StrList,
     count: usize,
     x: &[u8],
+    alike: &[usize],
     l: usize,
     q: usize,
     fail: usize,
     table: &mut [u16],
 ) -> usize
-    requires { ⌜ Ready (now store) list count (now table) × Turn (listed (now store) list count) (now table) (now x) l q fail ⌝ }
+    requires { ⌜ Ready (now store) list count (now table) × Turn (listed (now store) list count) (now table) (now x) l q fail × AlikeTo (listed (now store) list count) (now alike) (now x) ⌝ }
     ensures { λ r. ⌜ Stepped (listed (now (store .entry)) list count) (now (table .entry)) (now (table .exit)) (now (x .entry)) l q r ⌝ }
 {
     if x.len() < l {
         return 0;
     }
     let next = super::next_fail(table, x, l, fail);
-    super::fill_row(store, list, count, &x[..l], q, fail, table);
+    super::fill_row(store, list, count, &x[..l], alike, q, fail, table);
     next
 }
 
@@ -37,11 +39,12 @@ fn fill_level(
     store: &[u8],
     list: StrList,
     count: usize,
+    alike: &[usize],
     l: usize,
     table: &mut [u16],
     fails: &mut [usize],
 )
-    requires { ⌜ Ready (now store) list count (now table) × (0 < l) × (l ≤ 240) × (length (now fails) ≡ 32) × Levels (listed (now store) list count) (now table) (now fails) l 0 ⌝ }
+    requires { ⌜ Ready (now store) list count (now table) × (0 < l) × (l ≤ 240) × (length (now fails) ≡ 32) × Levels (listed (now store) list count) (now table) (now fails) l 0 × Alike (listed (now store) list count) (now alike) count ⌝ }
     ensures { λ _. ⌜ Leveled (listed (now (store .entry)) list count) (now (table .entry)) (now (table .exit)) (now (fails .exit)) (l + 1) ⌝ }
 {
     let mut j = 0;
@@ -49,21 +52,39 @@ fn fill_level(
     while j < count {
         let x = strlib::text(store, list[j]);
         let fail = fails[j];
-        fails[j] = fill_state(store, list, count, x, l, off + l + 1, fail, table);
+        let from = StrPtr::LIST_MAX * j;
+        fails[j] = fill_state(
+            store,
+            list,
+            count,
+            x,
+            &alike[from..],
+            l,
+            off + l + 1,
+            fail,
+            table,
+        );
         off += x.len();
         j += 1;
     }
 }
 
 // The rows of all texts of n characters at most.
-fn fill_levels(store: &[u8], list: StrList, count: usize, n: usize, table: &mut [u16])
-    requires { ⌜ Ready (now store) list count (now table) × (n ≡ total (listed (now store) list count)) × RowAt (listed (now store) list count) (now table) 1 [] ⌝ }
+fn fill_levels(
+    store: &[u8],
+    list: StrList,
+    count: usize,
+    alike: &[usize],
+    n: usize,
+    table: &mut [u16],
+)
+    requires { ⌜ Ready (now store) list count (now table) × (n ≡ total (listed (now store) list count)) × RowAt (listed (now store) list count) (now table) 1 [] × Alike (listed (now store) list count) (now alike) count ⌝ }
     ensures { λ _. ⌜ Rows (listed (now (store .entry)) list count) (now (table .entry)) (now (table .exit)) ⌝ }
 {
     let mut fails = [1usize; StrPtr::LIST_MAX];
     let mut l = 1;
     while l <= n {
-        fill_level(store, list, count, l, table, &mut fails);
+        fill_level(store, list, count, alike, l, table, &mut fails);
         l += 1;
     }
 }
@@ -74,8 +95,10 @@ fn build(store: &[u8], list: StrList, count: usize, table: &mut [u16])
 {
     let n = super::total_of(store, list, count);
     table[0] = super::narrow(n + 2);
-    super::root_row(store, list, count, table);
-    fill_levels(store, list, count, n, table);
+    let mut alike = [0usize; StrPtr::LIST_MAX * StrPtr::LIST_MAX];
+    super::alike::fill_alike(store, list, count, &mut alike);
+    super::root_row(store, list, count, &alike, table);
+    fill_levels(store, list, count, &alike, n, table);
 }
 
 fn list_refusal(store: &[u8], list: StrList, count: usize) -> u8

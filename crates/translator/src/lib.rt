@@ -1,5 +1,6 @@
 // Translating a list of strings into a search table: 01, "The search table". The rows of the states are filled by the lengths of their texts, each
 // beginning as a copy of a shorter text's row.
+mod alike;
 mod levels;
 
 use strlib::StrList;
@@ -18,6 +19,7 @@ ghost use Rattle.states.specs.State.{total};
 ghost use Rattle.states.specs.Fill.{limit, ifOpen, rootTo, wordOrStop, Filled, Copied, Flat, Defaulted, Put, Children, NotePut, Rowed};
 ghost use Rattle.translator.specs.Translate.{listed};
 ghost use Rattle.translator.specs.Inner.{Ready, Open, Next};
+ghost use Rattle.translator.specs.Common.{Tells, TellsAll};
 pub use levels::translate;
 
 pub enum TranslateAnswer {
@@ -62,15 +64,15 @@ fn total_of(store: &[u8], list: StrList, m: usize) -> usize
     sum
 }
 
-// The number of the first listed string that u begins with, 0 for none.
-fn closed_by(store: &[u8], list: StrList, count: usize, u: &[u8]) -> usize
-    requires { ⌜ count ≤ 32 ⌝ }
+// The number of the first listed string that u begins with, 0 for none. `alike` has the numbers of the string that u is cut from.
+fn closed_by(store: &[u8], list: StrList, count: usize, u: &[u8], alike: &[usize]) -> usize
+    requires { ⌜ (count ≤ 32) × TellsAll (now alike) (now u) (listed (now store) list count) ⌝ }
     ensures { λ r. ⌜ r ≡ closed (listed (now (store .entry)) list count) (now (u .entry)) ⌝ }
 {
     let mut i = 0;
     while i < count {
         let x = strlib::text(store, list[i]);
-        if search::starts_with(u, x) {
+        if strlib::both(x.len() <= u.len(), x.len() <= alike[i]) {
             return i + 1;
         }
         i += 1;
@@ -135,24 +137,32 @@ fn default_row(table: &mut [u16], q: usize, from: usize)
     }
 }
 
-// Where x goes on past u, its state v for the next character.
-fn put_child(table: &mut [u16], base: usize, x: &[u8], u: &[u8], v: u16)
-    requires { ⌜ (base + 128 ≤ length (now table)) × (characters (now x) ≡ true) ⌝ }
+// Where x goes on past u, its state v for the next character. `alike` is how far x and the string that u is cut from are alike.
+fn put_child(table: &mut [u16], base: usize, x: &[u8], u: &[u8], alike: usize, v: u16)
+    requires { ⌜ (base + 128 ≤ length (now table)) × (characters (now x) ≡ true) × Tells alike (now u) (now x) ⌝ }
     ensures { λ _. ⌜ Put (now (table .entry)) (now (table .exit)) base v (now (u .entry)) (now (x .entry)) ⌝ }
 {
     let l = u.len();
     if x.len() <= l {
         return;
     }
-    if search::starts_with(x, u) {
+    if l <= alike {
         let c = code(x[l]);
         table[base + c] = v;
     }
 }
 
 // The first m strings that go on past u, from the last to the first, so that the first one stays.
-fn put_children(store: &[u8], list: StrList, m: usize, u: &[u8], base: usize, table: &mut [u16])
-    requires { ⌜ (m ≤ 32) × (length (now store) ≤ 65536) × (all characters (listed (now store) list m) ≡ true) × (total (listed (now store) list m) ≤ 240) × (length (now u) ≤ 240) × (base + 128 ≤ length (now table)) ⌝ }
+fn put_children(
+    store: &[u8],
+    list: StrList,
+    m: usize,
+    u: &[u8],
+    alike: &[usize],
+    base: usize,
+    table: &mut [u16],
+)
+    requires { ⌜ (m ≤ 32) × (length (now store) ≤ 65536) × (all characters (listed (now store) list m) ≡ true) × (total (listed (now store) list m) ≤ 240) × (length (now u) ≤ 240) × (base + 128 ≤ length (now table)) × TellsAll (now alike) (now u) (listed (now store) list m) ⌝ }
     ensures { λ _. ⌜ Children (now (table .entry)) (now (table .exit)) base (now (u .entry)) (listed (now (store .entry)) list m) 0 ⌝ }
 {
     let l = u.len();
@@ -162,7 +172,7 @@ fn put_children(store: &[u8], list: StrList, m: usize, u: &[u8], base: usize, ta
         k -= 1;
         let x = strlib::text(store, list[k]);
         at -= x.len();
-        put_child(table, base, x, u, narrow(at + l + 2));
+        put_child(table, base, x, u, alike[k], narrow(at + l + 2));
     }
 }
 
@@ -210,28 +220,29 @@ fn finish_row(
     list: StrList,
     count: usize,
     u: &[u8],
+    alike: &[usize],
     closing: usize,
     q: usize,
     table: &mut [u16],
 )
-    requires { ⌜ Ready (now store) list count (now table) × Open (listed (now store) list count) (now table) (now u) q closing ⌝ }
+    requires { ⌜ Ready (now store) list count (now table) × Open (listed (now store) list count) (now table) (now u) q closing × TellsAll (now alike) (now u) (listed (now store) list count) ⌝ }
     ensures { λ _. ⌜ Rowed (listed (now (store .entry)) list count) (now (table .entry)) (now (table .exit)) q (now (u .entry)) ⌝ }
 {
     let m = limit_of(closing, count);
     let n = length_of(store, list, closing);
-    put_children(store, list, m, u, 1 + STATE_WORDS * q, table);
+    put_children(store, list, m, u, alike, 1 + STATE_WORDS * q, table);
     put_note(table, q, closing, n, u.len());
 }
 
-// The row of the start.
-fn root_row(store: &[u8], list: StrList, count: usize, table: &mut [u16])
-    requires { ⌜ Ready (now store) list count (now table) ⌝ }
+// The row of the start, whose text is empty: any numbers tell what begins with it.
+fn root_row(store: &[u8], list: StrList, count: usize, alike: &[usize], table: &mut [u16])
+    requires { ⌜ Ready (now store) list count (now table) × (32 ≤ length (now alike)) ⌝ }
     ensures { λ _. ⌜ Rowed (listed (now (store .entry)) list count) (now (table .entry)) (now (table .exit)) 1 [] ⌝ }
 {
     let u = &store[..0];
-    let closing = closed_by(store, list, count, u);
+    let closing = closed_by(store, list, count, u, alike);
     flat_row(table, 1, root_to(count, closing));
-    finish_row(store, list, count, u, closing, 1, table);
+    finish_row(store, list, count, u, alike, closing, 1, table);
 }
 
 // The row of u, whose tail's state is `fail`.
@@ -240,17 +251,18 @@ fn fill_row(
     list: StrList,
     count: usize,
     u: &[u8],
+    alike: &[usize],
     q: usize,
     fail: usize,
     table: &mut [u16],
 )
-    requires { ⌜ Ready (now store) list count (now table) × Next (listed (now store) list count) (now table) (now u) q fail ⌝ }
+    requires { ⌜ Ready (now store) list count (now table) × Next (listed (now store) list count) (now table) (now u) q fail × TellsAll (now alike) (now u) (listed (now store) list count) ⌝ }
     ensures { λ _. ⌜ Rowed (listed (now (store .entry)) list count) (now (table .entry)) (now (table .exit)) q (now (u .entry)) ⌝ }
 {
-    let closing = closed_by(store, list, count, u);
+    let closing = closed_by(store, list, count, u, alike);
     let from = if_open(closing, fail);
     default_row(table, q, from);
-    finish_row(store, list, count, u, closing, q, table);
+    finish_row(store, list, count, u, alike, closing, q, table);
 }
 
 fn row_word(table: &[u16], q: usize, c: usize) -> usize

@@ -8,8 +8,8 @@ finish-row-requires c κs =
     let d = c .before .before .before in
     let i = d .before .before in
     let k = i .before in
-    let st = k .before .before .before .before in
-    (search next-laws, next-open _ _ _ _ (st .pre .0) (search next-laws) _ _ _ (st .pre .1) _ _ (k .closed-by .ensures) (i .if-open .ensures) _ (d .default-row .ensures))
+    let st = k .before .before .before .before .before in
+    (search next-laws, next-open _ _ _ _ (st .pre .0) (search next-laws) _ _ _ (st .pre .1) _ _ (k .closed-by .ensures) (i .if-open .ensures) _ (d .default-row .ensures), st .pre .2)
 
 pub fill-row-spec : {M : Type 1} → statement M
 fill-row-spec =

@@ -9,7 +9,7 @@ use Rattle.translator.proofs.put_child.Tie as tie
 -- the character is below 128
 small : (c : tie.After-code) → c .code .result < 128
 small c =
-    let e = c .before .before .before .before in
+    let e = c .before .before .before in
     let a = e .before .before .before .before in
     omega (arith, c .code .ensures, character-at (a .args .x .now) (length (a .args .u .now)) (a .pre .1) (e .if1 .left))
 
@@ -18,7 +18,6 @@ put-child-spec =
     tie.close
     (tie.spec
     (λ c. search put-laws)
-    (λ c κs. search put-laws)
     (λ c. search put-laws)
     (λ c κs. search put-laws)
     (λ c. omega (arith, small c))

@@ -9,10 +9,10 @@ use Rattle.translator.proofs.put_children.Statement.{statement}
 use Rattle.translator.proofs.put_children.Tie as tie
 
 abbrev Inv-loop : tie.InvT-loop
-Inv-loop store m u base table₀ list l at₀ k₀ table at k = (length list ≡ 32) × (k ≤ m) × (at ≡ before (listed store list m) k) × (length table ≡ length table₀) × Children table₀ table base u (listed store list m) k
+Inv-loop store m u alike base table₀ list l at₀ k₀ table at k = (length list ≡ 32) × (k ≤ m) × (at ≡ before (listed store list m) k) × (length table ≡ length table₀) × Children table₀ table base u (listed store list m) k
 
 abbrev μ-loop : tie.MeasureT-loop
-μ-loop store m u base table₀ list l at₀ k₀ table at k = k
+μ-loop store m u alike base table₀ list l at₀ k₀ table at k = k
 
 pub put-children-spec : {M : Type 1} → statement M
 put-children-spec =
@@ -26,6 +26,8 @@ put-children-spec =
     (λ c. search children-laws)
     (λ c. search children-laws)
     (λ c κs. search children-laws)
+    (λ c. search children-laws)
+    (λ c. search children-laws)
     (λ c. search children-laws)
     (λ c. search children-laws)
     (λ c. search children-laws)

@@ -1,0 +1,112 @@
+// Strings, what a bounded copy gives, and parts of lent bytes.
+use copying::CopyAnswer;
+use copying::Place;
+use copying::RoundAnswer;
+use strlib::StrAnswer;
+use strlib::StrPtr;
+
+#[repr(C)]
+pub struct FlatString {
+    pub refusal: u8,
+    pub string: StrPtr,
+}
+
+#[repr(C)]
+pub struct FlatCopied {
+    pub refusal: u8,
+    pub completed: bool,
+    pub to: StrPtr,
+}
+
+#[repr(C)]
+pub struct FlatRound {
+    pub refusal: u8,
+    pub completed: bool,
+    pub to: StrPtr,
+    pub next: Place,
+}
+
+// Where a part of lent bytes begins, and its length.
+#[repr(C)]
+pub struct FlatPart {
+    pub offset: usize,
+    pub length: usize,
+}
+
+// A part of the house name, or else of the production name.
+#[repr(C)]
+pub struct FlatLabel {
+    pub house: bool,
+    pub offset: usize,
+    pub length: usize,
+}
+
+pub fn string(a: StrAnswer) -> FlatString {
+    match a {
+        StrAnswer::Given(string) => FlatString { refusal: 0, string },
+        StrAnswer::Refused(refusal) => FlatString {
+            refusal,
+            string: super::no_string(),
+        },
+    }
+}
+
+pub fn copied(a: CopyAnswer) -> FlatCopied {
+    match a {
+        CopyAnswer::Given(w) => {
+            let to = w.to;
+            FlatCopied {
+                refusal: 0,
+                completed: w.completed,
+                to,
+            }
+        }
+        CopyAnswer::Refused(refusal) => FlatCopied {
+            refusal,
+            completed: false,
+            to: super::no_string(),
+        },
+    }
+}
+
+pub fn round(a: RoundAnswer) -> FlatRound {
+    match a {
+        RoundAnswer::Given(w) => {
+            let to = w.to;
+            let next = w.next;
+            FlatRound {
+                refusal: 0,
+                completed: w.completed,
+                to,
+                next,
+            }
+        }
+        RoundAnswer::Refused(refusal) => {
+            let next = Place {
+                string: 0,
+                character: 0,
+            };
+            FlatRound {
+                refusal,
+                completed: false,
+                to: super::no_string(),
+                next,
+            }
+        }
+    }
+}
+
+pub fn part(p: StrPtr) -> FlatPart {
+    FlatPart {
+        offset: p.start,
+        length: p.length,
+    }
+}
+
+pub fn label(house: bool, p: StrPtr) -> FlatLabel {
+    FlatLabel {
+        house,
+        offset: p.start,
+        length: p.length,
+    }
+}

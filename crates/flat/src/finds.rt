@@ -7,6 +7,13 @@ use search::SearchAnswer;
 use search::SplitAnswer;
 use strlib::StrPtr;
 use table::RunAnswer;
+ghost use mathlib.Core.Path.{_≡_};
+ghost use Rattle.search.specs.Rule.{searchAnswered, splitAnswered};
+ghost use Rattle.table.specs.Run.{ranAnswered};
+ghost use Rattle.charset.specs.Rule.{charAnswered};
+ghost use Rattle.desk.specs.Label.{labelPlaced, namePart};
+ghost use Rattle.flat.specs.Strings.{flatPart};
+ghost use Rattle.flat.specs.Finds.{noMatch, flatMatch, noSplit, flatSplit, noNote, flatNote, noCharacter, flatCharacter, noName, flatName};
 
 #[repr(C)]
 pub struct FlatMatch {
@@ -53,8 +60,10 @@ pub struct FlatName {
     pub length: usize,
 }
 
-fn no_match(refusal: u8) -> FlatMatch {
-    let none = super::no_string();
+fn no_match(refusal: u8) -> FlatMatch
+    ensures { λ r. ⌜ r ≡ noMatch refusal ⌝ }
+{
+    let none = StrPtr::full(0, 0);
     FlatMatch {
         refusal,
         found: false,
@@ -65,7 +74,9 @@ fn no_match(refusal: u8) -> FlatMatch {
     }
 }
 
-pub fn matched(a: SearchAnswer) -> FlatMatch {
+pub fn matched(a: SearchAnswer) -> FlatMatch
+    ensures { λ r. ⌜ r ≡ flatMatch (searchAnswered a) ⌝ }
+{
     match a {
         SearchAnswer::Found(m) => {
             let before = m.before;
@@ -85,8 +96,10 @@ pub fn matched(a: SearchAnswer) -> FlatMatch {
     }
 }
 
-fn no_split(refusal: u8) -> FlatSplit {
-    let none = super::no_string();
+fn no_split(refusal: u8) -> FlatSplit
+    ensures { λ r. ⌜ r ≡ noSplit refusal ⌝ }
+{
+    let none = StrPtr::full(0, 0);
     FlatSplit {
         refusal,
         found: false,
@@ -96,7 +109,9 @@ fn no_split(refusal: u8) -> FlatSplit {
     }
 }
 
-pub fn split(a: SplitAnswer) -> FlatSplit {
+pub fn split(a: SplitAnswer) -> FlatSplit
+    ensures { λ r. ⌜ r ≡ flatSplit (splitAnswered a) ⌝ }
+{
     match a {
         SplitAnswer::Found(s) => {
             let front = s.front;
@@ -114,7 +129,9 @@ pub fn split(a: SplitAnswer) -> FlatSplit {
     }
 }
 
-fn no_note(refusal: u8, read: usize) -> FlatNote {
+fn no_note(refusal: u8, read: usize) -> FlatNote
+    ensures { λ r. ⌜ r ≡ noNote refusal read ⌝ }
+{
     FlatNote {
         refusal,
         found: false,
@@ -125,7 +142,9 @@ fn no_note(refusal: u8, read: usize) -> FlatNote {
     }
 }
 
-pub fn note(a: RunAnswer) -> FlatNote {
+pub fn note(a: RunAnswer) -> FlatNote
+    ensures { λ r. ⌜ r ≡ flatNote (ranAnswered a) ⌝ }
+{
     match a {
         RunAnswer::Found(n, read) => FlatNote {
             refusal: 0,
@@ -140,7 +159,9 @@ pub fn note(a: RunAnswer) -> FlatNote {
     }
 }
 
-fn no_character(refusal: u8) -> FlatCharacter {
+fn no_character(refusal: u8) -> FlatCharacter
+    ensures { λ r. ⌜ r ≡ noCharacter refusal ⌝ }
+{
     FlatCharacter {
         refusal,
         found: false,
@@ -149,7 +170,9 @@ fn no_character(refusal: u8) -> FlatCharacter {
     }
 }
 
-pub fn character(a: CharAnswer) -> FlatCharacter {
+pub fn character(a: CharAnswer) -> FlatCharacter
+    ensures { λ r. ⌜ r ≡ flatCharacter (charAnswered a) ⌝ }
+{
     match a {
         CharAnswer::Found(c) => FlatCharacter {
             refusal: 0,
@@ -162,7 +185,9 @@ pub fn character(a: CharAnswer) -> FlatCharacter {
     }
 }
 
-fn no_name(refusal: u8) -> FlatName {
+fn no_name(refusal: u8) -> FlatName
+    ensures { λ r. ⌜ r ≡ noName refusal ⌝ }
+{
     FlatName {
         refusal,
         found: false,
@@ -171,7 +196,9 @@ fn no_name(refusal: u8) -> FlatName {
     }
 }
 
-pub fn name(a: LabelPlace) -> FlatName {
+pub fn name(a: LabelPlace) -> FlatName
+    ensures { λ r. ⌜ r ≡ flatName (labelPlaced a) ⌝ }
+{
     match a {
         LabelPlace::Found { place, length } => FlatName {
             refusal: 0,
@@ -185,10 +212,12 @@ pub fn name(a: LabelPlace) -> FlatName {
 }
 
 // The same as a part: the empty one at the front on a refusal or no record.
-pub fn name_part(a: LabelPlace) -> FlatPart {
+pub fn name_part(a: LabelPlace) -> FlatPart
+    ensures { λ r. ⌜ r ≡ flatPart (namePart (labelPlaced a)) ⌝ }
+{
     match a {
         LabelPlace::Found { place, length } => strings::part(StrPtr::full(place, length)),
-        LabelPlace::Missing => strings::part(super::no_string()),
-        LabelPlace::Refused(_) => strings::part(super::no_string()),
+        LabelPlace::Missing => strings::part(StrPtr::full(0, 0)),
+        LabelPlace::Refused(_) => strings::part(StrPtr::full(0, 0)),
     }
 }

@@ -26,7 +26,6 @@ pub use strings::part;
 pub use strings::round;
 pub use strings::string;
 use strlib::StrList;
-use strlib::StrPtr;
 pub use values::FlatComparison;
 pub use values::FlatCue;
 pub use values::FlatNumber;
@@ -44,9 +43,4 @@ pub use values::translated;
 pub struct FlatList {
     pub items: StrList,
     pub count: usize,
-}
-
-// The pointer where there is none.
-fn no_string() -> StrPtr {
-    StrPtr::full(0, 0)
 }

@@ -4,6 +4,11 @@ use copying::Place;
 use copying::RoundAnswer;
 use strlib::StrAnswer;
 use strlib::StrPtr;
+ghost use mathlib.Core.Path.{_≡_};
+ghost use Rattle.strlib.specs.Refusal.{answered};
+ghost use Rattle.copying.specs.Copying.{copyAnswered};
+ghost use Rattle.copying.specs.Resuming.{roundAnswered};
+ghost use Rattle.flat.specs.Strings.{flatString, flatCopied, flatRound, flatPart, flatLabel};
 
 #[repr(C)]
 pub struct FlatString {
@@ -41,17 +46,21 @@ pub struct FlatLabel {
     pub length: usize,
 }
 
-pub fn string(a: StrAnswer) -> FlatString {
+pub fn string(a: StrAnswer) -> FlatString
+    ensures { λ r. ⌜ r ≡ flatString (answered a) ⌝ }
+{
     match a {
         StrAnswer::Given(string) => FlatString { refusal: 0, string },
         StrAnswer::Refused(refusal) => FlatString {
             refusal,
-            string: super::no_string(),
+            string: StrPtr::full(0, 0),
         },
     }
 }
 
-pub fn copied(a: CopyAnswer) -> FlatCopied {
+pub fn copied(a: CopyAnswer) -> FlatCopied
+    ensures { λ r. ⌜ r ≡ flatCopied (copyAnswered a) ⌝ }
+{
     match a {
         CopyAnswer::Given(w) => {
             let to = w.to;
@@ -64,12 +73,14 @@ pub fn copied(a: CopyAnswer) -> FlatCopied {
         CopyAnswer::Refused(refusal) => FlatCopied {
             refusal,
             completed: false,
-            to: super::no_string(),
+            to: StrPtr::full(0, 0),
         },
     }
 }
 
-pub fn round(a: RoundAnswer) -> FlatRound {
+pub fn round(a: RoundAnswer) -> FlatRound
+    ensures { λ r. ⌜ r ≡ flatRound (roundAnswered a) ⌝ }
+{
     match a {
         RoundAnswer::Given(w) => {
             let to = w.to;
@@ -89,21 +100,25 @@ pub fn round(a: RoundAnswer) -> FlatRound {
             FlatRound {
                 refusal,
                 completed: false,
-                to: super::no_string(),
+                to: StrPtr::full(0, 0),
                 next,
             }
         }
     }
 }
 
-pub fn part(p: StrPtr) -> FlatPart {
+pub fn part(p: StrPtr) -> FlatPart
+    ensures { λ r. ⌜ r ≡ flatPart p ⌝ }
+{
     FlatPart {
         offset: p.start,
         length: p.length,
     }
 }
 
-pub fn label(house: bool, p: StrPtr) -> FlatLabel {
+pub fn label(house: bool, p: StrPtr) -> FlatLabel
+    ensures { λ r. ⌜ r ≡ flatLabel house p ⌝ }
+{
     FlatLabel {
         house,
         offset: p.start,

@@ -6,6 +6,14 @@ use desk::LabelAdded;
 use desk::LabelCount;
 use number::NumberAnswer;
 use translator::TranslateAnswer;
+ghost use mathlib.Core.Path.{_≡_};
+ghost use Rattle.compare.specs.Compare.{comparedOf};
+ghost use Rattle.number.specs.Number.{numberAnswered};
+ghost use Rattle.desk.specs.Cue.{cueAnswered};
+ghost use Rattle.desk.specs.Label.{labelCounted, labelAdded};
+ghost use Rattle.charset.specs.Rule.{setAnswered};
+ghost use Rattle.translator.specs.Translate.{translated};
+ghost use Rattle.flat.specs.Values.{flatComparison, flatNumber, flatCue, flatSize, flatDone};
 
 #[repr(C)]
 pub struct FlatComparison {
@@ -35,7 +43,9 @@ pub struct FlatSize {
     pub value: usize,
 }
 
-pub fn comparison(a: Compared) -> FlatComparison {
+pub fn comparison(a: Compared) -> FlatComparison
+    ensures { λ r. ⌜ r ≡ flatComparison (comparedOf a) ⌝ }
+{
     match a {
         Compared::Answer(c) => FlatComparison {
             refusal: 0,
@@ -52,14 +62,18 @@ pub fn comparison(a: Compared) -> FlatComparison {
     }
 }
 
-pub fn number(a: NumberAnswer) -> FlatNumber {
+pub fn number(a: NumberAnswer) -> FlatNumber
+    ensures { λ r. ⌜ r ≡ flatNumber (numberAnswered a) ⌝ }
+{
     match a {
         NumberAnswer::Given(value) => FlatNumber { refusal: 0, value },
         NumberAnswer::Refused(refusal) => FlatNumber { refusal, value: 0 },
     }
 }
 
-pub fn cue(a: CueAnswer) -> FlatCue {
+pub fn cue(a: CueAnswer) -> FlatCue
+    ensures { λ r. ⌜ r ≡ flatCue (cueAnswered a) ⌝ }
+{
     match a {
         CueAnswer::Cue(c) => FlatCue {
             refusal: 0,
@@ -76,28 +90,36 @@ pub fn cue(a: CueAnswer) -> FlatCue {
     }
 }
 
-pub fn records(a: LabelCount) -> FlatSize {
+pub fn records(a: LabelCount) -> FlatSize
+    ensures { λ r. ⌜ r ≡ flatSize (labelCounted a) ⌝ }
+{
     match a {
         LabelCount::Records(value) => FlatSize { refusal: 0, value },
         LabelCount::Refused(refusal) => FlatSize { refusal, value: 0 },
     }
 }
 
-pub fn added(a: LabelAdded) -> FlatSize {
+pub fn added(a: LabelAdded) -> FlatSize
+    ensures { λ r. ⌜ r ≡ flatSize (labelAdded a) ⌝ }
+{
     match a {
         LabelAdded::Added(value) => FlatSize { refusal: 0, value },
         LabelAdded::Refused(refusal) => FlatSize { refusal, value: 0 },
     }
 }
 
-pub fn set(a: SetAnswer) -> u8 {
+pub fn set(a: SetAnswer) -> u8
+    ensures { λ r. ⌜ r ≡ flatDone (setAnswered a) ⌝ }
+{
     match a {
         SetAnswer::Done => 0,
         SetAnswer::Refused(refusal) => refusal,
     }
 }
 
-pub fn translated(a: TranslateAnswer) -> u8 {
+pub fn translated(a: TranslateAnswer) -> u8
+    ensures { λ r. ⌜ r ≡ flatDone (translated a) ⌝ }
+{
     match a {
         TranslateAnswer::Done => 0,
         TranslateAnswer::Refused(refusal) => refusal,

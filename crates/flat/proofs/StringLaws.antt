@@ -1,7 +1,7 @@
 -- Laws of the flat strings and copies, case by case of the answer. Assumes nothing.
 use Prim.Native.Nat.{ℕ}
 use mathlib.Core.Path.{_≡_, refl}
-use mathlib.Core.Bool.{false}
+use mathlib.Core.Bool.{Bool, false}
 use borrow.Author.Needs.{needs}
 use Rattle.strlib.specs.Pointer.{pointer}
 use Rattle.strlib.specs.Refusal.{answered}
@@ -16,10 +16,12 @@ use Rattle.copying.specs.declared.CopyAnswer.the-variants.{Given as Copied, Ref
 use Rattle.copying.specs.declared.Round.{Round}
 use Rattle.copying.specs.declared.RoundAnswer.{RoundAnswer}
 use Rattle.copying.specs.declared.RoundAnswer.the-variants.{Given as Resumed, Refused as Unresumed}
-use Rattle.flat.specs.Strings.{noString, noPlace, flatString, flatCopied, flatRound}
+use Rattle.flat.specs.Strings.{noString, noPlace, flatString, flatCopied, flatRound, flatPart, flatLabel}
 use Rattle.flat.specs.declared.strings.FlatString.{FlatString}
 use Rattle.flat.specs.declared.strings.FlatCopied.{FlatCopied}
 use Rattle.flat.specs.declared.strings.FlatRound.{FlatRound}
+use Rattle.flat.specs.declared.strings.FlatPart.{FlatPart}
+use Rattle.flat.specs.declared.strings.FlatLabel.{FlatLabel}
 
 module _ (a : StrAnswer) where
   pub string-given : (p : StrPtr) → a ≡ Given p → _≡_ {A = FlatString} (record { refusal = 0; string = p }) (flatString (answered a))
@@ -48,4 +50,12 @@ module _ (a : RoundAnswer) where
   unfolding flatRound
   round-refused n z e h = rw (e, h)
 
-pub ruleset string-laws = (needs, string-given, string-refused, copied-given, copied-refused, round-given, round-refused)
+pub part-of : (p : StrPtr) → _≡_ {A = FlatPart} (record { offset = p .start; length = p .length }) (flatPart p)
+unfolding flatPart
+part-of p = refl
+
+pub label-of : (house : Bool) (p : StrPtr) → _≡_ {A = FlatLabel} (record { house = house; offset = p .start; length = p .length }) (flatLabel house p)
+unfolding flatLabel
+label-of house p = refl
+
+pub ruleset string-laws = (needs, string-given, string-refused, copied-given, copied-refused, round-given, round-refused, part-of, label-of)

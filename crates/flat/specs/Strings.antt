@@ -42,10 +42,10 @@ flatRound (refused n) = record { refusal = n; completed = false; to = noString; 
 flatRound (gives w) = record { refusal = 0; completed = w .completed; to = w .to; next = w .next }
 
 -- a part of what was lent, where the pointer lies in it
-abbrev pub flatPart : StrPtr → FlatPart
+unfoldable pub flatPart : StrPtr → FlatPart
 flatPart p = record { offset = p .start; length = p .length }
 
-abbrev pub flatLabel : Bool → StrPtr → FlatLabel
+unfoldable pub flatLabel : Bool → StrPtr → FlatLabel
 flatLabel house p = record { house = house; offset = p .start; length = p .length }
 
 -- the label shown on the desk, of the two names: the trimmed production name, or the trimmed house name where that is all blanks or empty

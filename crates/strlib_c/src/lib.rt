@@ -10,9 +10,13 @@ mod sets;
 mod tables;
 
 use strlib::StrPtr;
+ghost use mathlib.Core.Path.{_≡_};
+ghost use Rattle.strlib.specs.Pointer.{goodIn};
 
 // Whether a pointer is good for a store of so many bytes.
 #[no_mangle]
-pub extern "C" fn strlib_is_good(store_length: usize, string: StrPtr) -> bool {
-    string.is_good(store_length)
+pub extern "C" fn strlib_is_good(n: usize, string: StrPtr) -> bool
+    ensures { λ r. ⌜ r ≡ goodIn n string ⌝ }
+{
+    string.is_good(n)
 }

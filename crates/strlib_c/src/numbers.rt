@@ -2,9 +2,15 @@
 use flat::FlatNumber;
 use flat::FlatString;
 use strlib::StrPtr;
+ghost use mathlib.Core.Path.{_≡_};
+ghost use Rattle.number.specs.Number.{readRule, writeRule};
+ghost use Rattle.flat.specs.Strings.{flatWith, flatString};
+ghost use Rattle.flat.specs.Values.{flatNumber};
 
 #[no_mangle]
-pub extern "C" fn strlib_read_number(store: &[u8], string: StrPtr, base: usize) -> FlatNumber {
+pub extern "C" fn strlib_read_number(store: &[u8], string: StrPtr, base: usize) -> FlatNumber
+    ensures { λ r. ⌜ r ≡ flatNumber (readRule (now (store .entry)) string base) ⌝ }
+{
     flat::number(number::read(store, string, base))
 }
 
@@ -14,6 +20,8 @@ pub extern "C" fn strlib_write_number(
     destination: StrPtr,
     value: i64,
     base: usize,
-) -> FlatString {
+) -> FlatString
+    ensures { λ r. ⌜ (r, now (store .exit)) ≡ flatWith flatString (writeRule (now (store .entry)) destination value base) ⌝ }
+{
     flat::string(number::write(store, destination, value, base))
 }

@@ -1,14 +1,24 @@
 // Character sets.
 use flat::FlatCharacter;
 use strlib::StrPtr;
+ghost use mathlib.Core.Path.{_≡_};
+ghost use mathlib.Core.Bool.{true, false};
+ghost use Rattle.charset.specs.Rule.{tablesRule, charactersRule, findRule};
+ghost use Rattle.flat.specs.Strings.{flatWith};
+ghost use Rattle.flat.specs.Finds.{flatCharacter};
+ghost use Rattle.flat.specs.Values.{flatDone};
 
 #[no_mangle]
-pub extern "C" fn strlib_clear_tables(block: &mut [u64], mask: u64) -> u8 {
+pub extern "C" fn strlib_clear_tables(block: &mut [u64], mask: u64) -> u8
+    ensures { λ r. ⌜ (r, now (block .exit)) ≡ flatWith flatDone (tablesRule false (now (block .entry)) mask) ⌝ }
+{
     flat::set(charset::clear_tables(block, mask))
 }
 
 #[no_mangle]
-pub extern "C" fn strlib_fill_tables(block: &mut [u64], mask: u64) -> u8 {
+pub extern "C" fn strlib_fill_tables(block: &mut [u64], mask: u64) -> u8
+    ensures { λ r. ⌜ (r, now (block .exit)) ≡ flatWith flatDone (tablesRule true (now (block .entry)) mask) ⌝ }
+{
     flat::set(charset::fill_tables(block, mask))
 }
 
@@ -18,7 +28,9 @@ pub extern "C" fn strlib_add_characters(
     string: StrPtr,
     block: &mut [u64],
     mask: u64,
-) -> u8 {
+) -> u8
+    ensures { λ r. ⌜ (r, now (block .exit)) ≡ flatWith flatDone (charactersRule true (now (store .entry)) string (now (block .entry)) mask) ⌝ }
+{
     flat::set(charset::add_characters(store, string, block, mask))
 }
 
@@ -28,7 +40,9 @@ pub extern "C" fn strlib_remove_characters(
     string: StrPtr,
     block: &mut [u64],
     mask: u64,
-) -> u8 {
+) -> u8
+    ensures { λ r. ⌜ (r, now (block .exit)) ≡ flatWith flatDone (charactersRule false (now (store .entry)) string (now (block .entry)) mask) ⌝ }
+{
     flat::set(charset::remove_characters(store, string, block, mask))
 }
 
@@ -38,7 +52,9 @@ pub extern "C" fn strlib_find_first(
     host: StrPtr,
     block: &[u64],
     mask: u64,
-) -> FlatCharacter {
+) -> FlatCharacter
+    ensures { λ r. ⌜ r ≡ flatCharacter (findRule false (now (store .entry)) host (now (block .entry)) mask) ⌝ }
+{
     flat::character(charset::find_first(store, host, block, mask))
 }
 
@@ -48,6 +64,8 @@ pub extern "C" fn strlib_find_last(
     host: StrPtr,
     block: &[u64],
     mask: u64,
-) -> FlatCharacter {
+) -> FlatCharacter
+    ensures { λ r. ⌜ r ≡ flatCharacter (findRule true (now (store .entry)) host (now (block .entry)) mask) ⌝ }
+{
     flat::character(charset::find_last(store, host, block, mask))
 }

@@ -82,12 +82,12 @@ pub fn round(a: RoundAnswer) -> FlatRound
     ensures { λ r. ⌜ r ≡ flatRound (roundAnswered a) ⌝ }
 {
     match a {
-        RoundAnswer::Given(w) => {
-            let to = w.to;
-            let next = w.next;
+        RoundAnswer::Given(r) => {
+            let to = r.to;
+            let next = r.next;
             FlatRound {
                 refusal: 0,
-                completed: w.completed,
+                completed: r.completed,
                 to,
                 next,
             }

@@ -29,7 +29,8 @@ pub enum CopyAnswer {
     Refused(u8),
 }
 
-// A resume place: a string of the list and a character in it, both from 1.
+// A resume place: a string of the list and a character in it, both from 1. It crosses the C boundary as it is.
+#[repr(C)]
 pub struct Place {
     pub string: usize,
     pub character: usize,

@@ -1,0 +1,3 @@
+pub mod StringLaws
+pub mod FindLaws
+pub mod ValueLaws

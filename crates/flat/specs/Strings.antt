@@ -1,0 +1,53 @@
+-- The flat answers that are strings, copies and parts: a refusal is its number with 0 in every other field, and a value has the number 0. Assumes
+-- nothing.
+use Prim.Native.Nat.{ℕ}
+use mathlib.Core.Bool.{Bool, true, false, cond}
+use mathlib.Core.List.{List}
+use Rattle.strlib.specs.Pointer.{pointer}
+use Rattle.strlib.specs.Refusal.{Outcome, refused, gives}
+use Rattle.strlib.specs.declared.StrPtr.{StrPtr}
+use Rattle.cutting.specs.Cutting.{blanks}
+use Rattle.cutting.specs.Part.{sliceCut}
+use Rattle.cutting.specs.declared.Cut.the-variants.{Trimmed}
+use Rattle.copying.specs.declared.Wrote.{Wrote}
+use Rattle.copying.specs.declared.Place.{Place}
+use Rattle.copying.specs.declared.Round.{Round}
+use Rattle.flat.specs.declared.strings.FlatString.{FlatString}
+use Rattle.flat.specs.declared.strings.FlatCopied.{FlatCopied}
+use Rattle.flat.specs.declared.strings.FlatRound.{FlatRound}
+use Rattle.flat.specs.declared.strings.FlatPart.{FlatPart}
+use Rattle.flat.specs.declared.strings.FlatLabel.{FlatLabel}
+
+-- a call that writes: its answer made flat, and what it was lent
+unfoldable pub flatWith : {A B : Type 0} → (A → B) → A × List ℕ → B × List ℕ
+flatWith f a = (f (a .0), a .1)
+
+-- the pointer and the place where there is none
+abbrev pub noString : StrPtr
+noString = pointer 0 0 0
+
+abbrev pub noPlace : Place
+noPlace = record { string = 0; character = 0 }
+
+unfoldable pub flatString : Outcome StrPtr → FlatString
+flatString (refused n) = record { refusal = n; string = noString }
+flatString (gives p) = record { refusal = 0; string = p }
+
+unfoldable pub flatCopied : Outcome Wrote → FlatCopied
+flatCopied (refused n) = record { refusal = n; completed = false; to = noString }
+flatCopied (gives w) = record { refusal = 0; completed = w .completed; to = w .to }
+
+unfoldable pub flatRound : Outcome Round → FlatRound
+flatRound (refused n) = record { refusal = n; completed = false; to = noString; next = noPlace }
+flatRound (gives w) = record { refusal = 0; completed = w .completed; to = w .to; next = w .next }
+
+-- a part of what was lent, where the pointer lies in it
+unfoldable pub flatPart : StrPtr → FlatPart
+flatPart p = record { offset = p .start; length = p .length }
+
+unfoldable pub flatLabel : Bool → StrPtr → FlatLabel
+flatLabel house p = record { house = house; offset = p .start; length = p .length }
+
+-- the label shown on the desk, of the two names: the trimmed production name, or the trimmed house name where that is all blanks or empty
+unfoldable pub deskLabel : List ℕ → List ℕ → FlatLabel
+deskLabel production house = flatLabel (blanks production) (sliceCut (cond (blanks production) house production) Trimmed)

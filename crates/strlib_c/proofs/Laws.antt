@@ -1,0 +1,143 @@
+-- Laws of the exported calls: an answer made flat is the flat answer of the call's rule. Assumes nothing.
+use Prim.Native.Nat.{ℕ, zero, suc}
+use mathlib.Core.Path.{_≡_, refl, sym, ap, _∙_}
+use mathlib.Core.Bool.{true, false}
+use mathlib.Core.List.{List}
+use lib.IntN.{ℤ}
+use lib.Seq.{take-length}
+use borrow.Author.Needs.{needs}
+use Rattle.strlib.specs.Pointer.{pointer, sized, textOf}
+use Rattle.strlib.specs.Refusal.{Outcome, outcome, Sought}
+use Rattle.strlib.specs.declared.StrPtr.{StrPtr}
+use Rattle.compare.specs.Compare.{compareRule}
+use Rattle.compare.specs.declared.Comparison.{Comparison}
+use Rattle.cutting.proofs.Bounding.{trimmed-none, trimmed-some}
+use Rattle.cutting.specs.Cutting.{trimmed, inBounds, cutOf}
+use Rattle.cutting.specs.Part.{whole, sliceCut}
+use Rattle.cutting.specs.declared.Cut.the-variants.{Trimmed}
+use Rattle.search.specs.Search.{Result}
+use Rattle.search.specs.declared.Match.{Match}
+use Rattle.search.specs.declared.Split.{Split}
+use Rattle.charset.specs.declared.CharAt.{CharAt}
+use Rattle.number.specs.Number.{writeRule}
+use Rattle.translator.specs.Translate.{Translated, translateRefusal}
+use Rattle.desk.specs.Label.{namePart}
+use Rattle.desk.specs.declared.cue.Cue.{Cue}
+use Rattle.flat.specs.Strings.{flatWith, flatString, flatPart, flatLabel, deskLabel}
+use Rattle.flat.specs.Finds.{flatMatch, flatSplit, flatNote, flatCharacter, flatName}
+use Rattle.flat.specs.Values.{flatComparison, flatNumber, flatCue, flatSize, flatDone, done}
+use Rattle.flat.specs.declared.strings.FlatString.{FlatString}
+use Rattle.flat.specs.declared.strings.FlatPart.{FlatPart}
+use Rattle.flat.specs.declared.strings.FlatLabel.{FlatLabel}
+use Rattle.flat.specs.declared.finds.FlatMatch.{FlatMatch}
+use Rattle.flat.specs.declared.finds.FlatSplit.{FlatSplit}
+use Rattle.flat.specs.declared.finds.FlatNote.{FlatNote}
+use Rattle.flat.specs.declared.finds.FlatCharacter.{FlatCharacter}
+use Rattle.flat.specs.declared.finds.FlatName.{FlatName}
+use Rattle.flat.specs.declared.values.FlatComparison.{FlatComparison}
+use Rattle.flat.specs.declared.values.FlatNumber.{FlatNumber}
+use Rattle.flat.specs.declared.values.FlatCue.{FlatCue}
+use Rattle.flat.specs.declared.values.FlatSize.{FlatSize}
+
+-- ---- a call that reads: for each flat answer, since `search` asks for a law that names it
+
+keeps : {A B : Type 0} (f : A → B) (r : B) (x y : A) → r ≡ f x → x ≡ y → r ≡ f y
+keeps f r x y h e = h ∙ ap f e
+
+pub string-is : (r : FlatString) (x y : Outcome StrPtr) → r ≡ flatString x → x ≡ y → r ≡ flatString y
+string-is = keeps flatString
+
+pub part-is : (r : FlatPart) (x y : StrPtr) → r ≡ flatPart x → x ≡ y → r ≡ flatPart y
+part-is = keeps flatPart
+
+pub match-is : (r : FlatMatch) (x y : Outcome (Sought Match)) → r ≡ flatMatch x → x ≡ y → r ≡ flatMatch y
+match-is = keeps flatMatch
+
+pub split-is : (r : FlatSplit) (x y : Outcome (Sought Split)) → r ≡ flatSplit x → x ≡ y → r ≡ flatSplit y
+split-is = keeps flatSplit
+
+pub note-is : (r : FlatNote) (x y : Outcome (Result × ℕ)) → r ≡ flatNote x → x ≡ y → r ≡ flatNote y
+note-is = keeps flatNote
+
+pub character-is : (r : FlatCharacter) (x y : Outcome (Sought CharAt)) → r ≡ flatCharacter x → x ≡ y → r ≡ flatCharacter y
+character-is = keeps flatCharacter
+
+pub number-is : (r : FlatNumber) (x y : Outcome ℤ) → r ≡ flatNumber x → x ≡ y → r ≡ flatNumber y
+number-is = keeps flatNumber
+
+pub cue-is : (r : FlatCue) (x y : Outcome Cue) → r ≡ flatCue x → x ≡ y → r ≡ flatCue y
+cue-is = keeps flatCue
+
+pub size-is : (r : FlatSize) (x y : Outcome ℕ) → r ≡ flatSize x → x ≡ y → r ≡ flatSize y
+size-is = keeps flatSize
+
+pub name-is : (r : FlatName) (x y : Outcome (Sought StrPtr)) → r ≡ flatName x → x ≡ y → r ≡ flatName y
+name-is = keeps flatName
+
+pub name-part-is : (r : FlatPart) (x y : Outcome (Sought StrPtr)) → r ≡ flatPart (namePart x) → x ≡ y → r ≡ flatPart (namePart y)
+name-part-is = keeps (λ (x : Outcome (Sought StrPtr)). flatPart (namePart x))
+
+-- the translation is the one that was passed
+pub comparison-is : (r : FlatComparison) (x : Outcome Comparison) (s : List ℕ) (string1 string2 : StrPtr) (code style : ℕ) (t passed : ℤ) → r ≡ flatComparison x
+    → x ≡ compareRule s string1 string2 code style passed → passed ≡ t → r ≡ flatComparison (compareRule s string1 string2 code style t)
+comparison-is r x s string1 string2 code style t passed h e p = rw (← p, ← e) h
+
+-- ---- a call that writes
+
+pub flat-with : {A B : Type 0} (f : A → B) (r : B) (x : A) (h : r ≡ f x) (s : List ℕ) (y : A × List ℕ) → (x, s) ≡ y → (r, s) ≡ flatWith f y
+unfolding flatWith
+flat-with f r x h s y e = rw (← e, h)
+
+-- the value is the one that was passed
+pub written-is : (r : FlatString) (x : Outcome StrPtr) (s old : List ℕ) (p : StrPtr) (base : ℕ) (z passed : ℤ) → r ≡ flatString x
+    → (x, s) ≡ writeRule old p passed base → passed ≡ z → (r, s) ≡ flatWith flatString (writeRule old p z base)
+written-is r x s old p base z passed h e q = rw (← q) (flat-with flatString r x h s (writeRule old p passed base) e)
+
+-- the number says what was answered
+said : (k : ℕ) → done (flatDone (outcome k tt)) ≡ outcome k tt
+unfolding done flatDone outcome
+said zero = refl
+said (suc k) = refl
+
+pub translate-is : (r : ℕ) (a : Outcome (Unit {0})) (s : List ℕ) (list : List StrPtr) (count : ℕ) (old new : List ℕ) → r ≡ flatDone a
+    → Translated s list count old a new → Translated s list count old (done r) new
+translate-is r a s list count old new h t =
+    record { answered = rw (h, t .answered) (said _); words = t .words }
+
+-- ---- the desk label
+
+left : (xs : List ℕ) → sliceCut xs Trimmed .length ≡ trimmed xs
+unfolding sliceCut inBounds cutOf sized textOf whole pointer
+left xs = ap trimmed (take-length xs)
+
+-- the trimmed production name's length tells whether that name is blank
+module _ (r : FlatLabel) (p : StrPtr) (production house : List ℕ) (e : p ≡ sliceCut production Trimmed) where
+  pub label-house : (q : StrPtr) → r ≡ flatLabel true q → p .length ≡ 0 → q ≡ sliceCut house Trimmed → r ≡ deskLabel production house
+  unfolding deskLabel
+  label-house q h z f = rw (trimmed-none production (sym (left production) ∙ ap (λ (p : StrPtr). p .length) (sym e) ∙ z), ← f) h
+
+  pub label-production : r ≡ flatLabel false p → (p .length ≡ 0 → ⊥) → r ≡ deskLabel production house
+  unfolding deskLabel
+  label-production h z =
+      rw (trimmed-some production (λ (n : trimmed production ≡ 0). z (ap (λ (p : StrPtr). p .length) e ∙ left production ∙ n)), ← e) h
+
+pub ruleset flat-laws = (
+  needs,
+  string-is,
+  part-is,
+  match-is,
+  split-is,
+  note-is,
+  character-is,
+  number-is,
+  cue-is,
+  size-is,
+  name-is,
+  name-part-is,
+  comparison-is,
+  flat-with,
+  written-is,
+  translate-is,
+  label-house,
+  label-production,
+)

@@ -1,0 +1,11 @@
+use Rattle.strlib_c.proofs.Laws.{flat-laws}
+use Rattle.strlib_c.proofs.cuts.strlib_counted_part.Statement.{statement}
+use Rattle.strlib_c.proofs.cuts.strlib_counted_part.Tie as tie
+
+pub strlib-counted-part-spec : {M : Type 1} → statement M
+strlib-counted-part-spec =
+    tie.close
+    (tie.spec
+    (λ c κs. tt)
+    (λ c κs. tt)
+    (λ c. search flat-laws))

@@ -24,7 +24,7 @@ pub enum Finding {
 }
 
 // Whether the characters of a string stand at the front of a text.
-pub fn starts_with(text: &[u8], string: &[u8]) -> bool
+fn starts_with(text: &[u8], string: &[u8]) -> bool
     ensures { λ r. ⌜ r ≡ isPrefix (now (string .entry)) (now (text .entry)) ⌝ }
 {
     let mut i = 0;

@@ -7,7 +7,6 @@ ghost use Prim.Native.Nat.{_+_, _≤_};
 ghost use Rattle.strlib.specs.Pointer.{partOf};
 ghost use Rattle.search.specs.Inner.{Within};
 ghost use Rattle.search.specs.Rule.{partsOf, splitOf, searchAnswered, splitAnswered, searchRule, matchAfterRule, beforeMatchRule};
-pub use find::starts_with;
 use strlib::StrList;
 use strlib::StrPtr;
 

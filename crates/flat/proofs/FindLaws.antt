@@ -1,6 +1,6 @@
 -- Laws of the flat answers of a search, case by case of the answer. Assumes nothing.
 use Prim.Native.Nat.{ℕ}
-use mathlib.Core.Path.{_≡_, refl}
+use mathlib.Core.Path.{_≡_}
 use mathlib.Core.Bool.{true, false}
 use borrow.Author.Needs.{needs}
 use Rattle.strlib.specs.Pointer.{pointer}

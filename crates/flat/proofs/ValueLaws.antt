@@ -1,6 +1,6 @@
 -- Laws of the flat values, case by case of the answer. Assumes nothing.
 use Prim.Native.Nat.{ℕ}
-use mathlib.Core.Path.{_≡_, refl}
+use mathlib.Core.Path.{_≡_}
 use mathlib.Core.Bool.{false}
 use lib.IntN.{ℤ, pos}
 use borrow.Author.Needs.{needs}

@@ -1,6 +1,6 @@
 -- The flat answers of a search: nothing found is no refusal, and its fields are 0 all the same. Assumes nothing.
 use Prim.Native.Nat.{ℕ}
-use mathlib.Core.Bool.{Bool, true, false}
+use mathlib.Core.Bool.{true, false}
 use Rattle.strlib.specs.Refusal.{Outcome, refused, gives, Sought, nowhere, at}
 use Rattle.strlib.specs.declared.StrPtr.{StrPtr}
 use Rattle.search.specs.Search.{Result, nothing, found}

@@ -1,7 +1,7 @@
 -- The flat answers that are strings, copies and parts: a refusal is its number with 0 in every other field, and a value has the number 0. Assumes
 -- nothing.
 use Prim.Native.Nat.{ℕ}
-use mathlib.Core.Bool.{Bool, true, false, cond}
+use mathlib.Core.Bool.{Bool, false, cond}
 use mathlib.Core.List.{List}
 use Rattle.strlib.specs.Pointer.{pointer}
 use Rattle.strlib.specs.Refusal.{Outcome, refused, gives}

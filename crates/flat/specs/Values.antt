@@ -1,6 +1,6 @@
 -- The flat answers that are values: comparisons, numbers, cues, and the refusal's number alone. Assumes nothing.
 use Prim.Native.Nat.{ℕ}
-use mathlib.Core.Bool.{Bool, false}
+use mathlib.Core.Bool.{false}
 use lib.IntN.{ℤ, pos}
 use Rattle.strlib.specs.Refusal.{Outcome, refused, gives, outcome}
 use Rattle.compare.specs.declared.Comparison.{Comparison}

@@ -20,7 +20,7 @@ use Rattle.search.specs.declared.Match.{Match}
 use Rattle.search.specs.declared.Split.{Split}
 use Rattle.charset.specs.declared.CharAt.{CharAt}
 use Rattle.number.specs.Number.{writeRule}
-use Rattle.translator.specs.Translate.{Translated, translateRefusal}
+use Rattle.translator.specs.Translate.{Translated}
 use Rattle.desk.specs.Label.{namePart}
 use Rattle.desk.specs.declared.cue.Cue.{Cue}
 use Rattle.flat.specs.Strings.{flatWith, flatString, flatPart, flatLabel, deskLabel}

@@ -32,21 +32,29 @@ fn kind_and_number(rng: &mut Rng) -> (u8, usize) {
     (kind, number)
 }
 
-/// A list without repeated records mostly, damaged in half of the rounds.
+/// A list without repeated records mostly, damaged in a third of the rounds; one in 200 is long.
 fn list(rng: &mut Rng) -> Vec<u8> {
-    let records = match rng.below(200) {
-        0 => rng.up_to(250),
-        _ => rng.below(6),
-    };
-    let repeats = rng.one_in(8);
-    let mut seen = Vec::new();
-    let mut list = Vec::new();
-    for _ in 0..records {
-        let (kind, number) = kind_and_number(rng);
-        if repeats || !seen.contains(&(kind, number)) {
-            seen.push((kind, number));
-            list.extend(record(kind, number, &name(rng)));
+    let mut records = Vec::new();
+    if rng.one_in(200) {
+        records.extend((1..=64).map(|number| (1, number)));
+        records.extend((1..=128).map(|number| (2, number)));
+        for i in 0..records.len() {
+            let j = rng.up_to(i);
+            records.swap(i, j);
         }
+        records.truncate(rng.up_to(192));
+    } else {
+        let repeats = rng.one_in(8);
+        for _ in 0..rng.below(6) {
+            let record = kind_and_number(rng);
+            if repeats || !records.contains(&record) {
+                records.push(record);
+            }
+        }
+    }
+    let mut list = Vec::new();
+    for (kind, number) in records {
+        list.extend(record(kind, number, &name(rng)));
     }
     if !list.is_empty() && rng.one_in(3) {
         for _ in 0..1 + rng.below(2) {

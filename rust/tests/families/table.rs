@@ -237,7 +237,9 @@ fn made_up_words_run_as_the_document_says() {
         let answer = run(round, &store, host, &words);
         let call = Call::new("run", &store, (host, &words));
         round.same(&call, "words", &words, &before);
-        if answer.refusal() == 10 && words.len() > 130 * words[0] as usize && words[0] >= 2 {
+        if answer.refusal() == 10
+            && matches!(words.first(), Some(s @ 2..=6) if words.len() > 130 * *s as usize)
+        {
             round.met("run", "refused on the way");
         }
         if matches!(answer, Ok(Run { note: Some(note), .. }) if note.string == 32) {

@@ -1,10 +1,9 @@
 //! Character sets.
 
-use super::ROUNDS;
 use crate::oracle::charset as oracle;
 use crate::support::rng::Rng;
-use crate::support::{raw, rounds, shapes, Call};
-use strlib::{ffi, Character, Refusal, StrPtr};
+use crate::support::{raw, rounds, shapes, Call, ROUNDS};
+use strlib::{ffi, Character, Refusal, StrPtr, BLOCK_WORDS};
 
 fn mask(rng: &mut Rng) -> u64 {
     match rng.below(24) {
@@ -145,6 +144,7 @@ fn sets_change_as_the_document_says() {
 
 #[test]
 fn blocks_and_masks_at_their_bounds() {
+    assert_eq!(BLOCK_WORDS, 128);
     let most = (1 << 36) - 1;
     let mut block = vec![0; 129];
     assert_eq!(strlib::fill_tables(&mut block[..127], 1), Err(Refusal(3)));

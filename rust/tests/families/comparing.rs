@@ -1,9 +1,9 @@
 //! Comparing.
 
-use super::{laid_out, ROUNDS};
+use super::laid_out;
 use crate::oracle::comparing as oracle;
 use crate::support::rng::Rng;
-use crate::support::{raw, rounds, shapes, Call};
+use crate::support::{raw, rounds, shapes, Call, ROUNDS};
 use strlib::{compare, ffi, Comparison, StrPtr};
 
 /// Two strings that are alike: string 2 is string 1 with the translation taken off, then changed a little at its end or inside.

@@ -1,9 +1,9 @@
 //! Copying, appending, joining, and joining in rounds.
 
-use super::{laid_out, ROUNDS};
+use super::laid_out;
 use crate::oracle::{self, copying};
 use crate::support::rng::Rng;
-use crate::support::{raw, rounds, shapes, Call};
+use crate::support::{raw, rounds, shapes, Call, ROUNDS};
 use strlib::{ffi, Copied, Place, Refusal, Round, StrList, StrPtr};
 
 fn place(rng: &mut Rng, list: &StrList) -> Place {

@@ -1,9 +1,8 @@
 //! Cue lines.
 
-use super::ROUNDS;
 use crate::oracle::desk as oracle;
 use crate::support::rng::Rng;
-use crate::support::{raw, rounds, Call};
+use crate::support::{raw, rounds, Call, ROUNDS};
 use strlib::{ffi, Cue, Refusal};
 
 /// A number's word: in or around these bounds, out of the conversion's range, or no number.

@@ -1,11 +1,10 @@
 //! Cutting, the parts of plain bytes, and the desk label.
 
-use super::ROUNDS;
 use crate::oracle::cutting as oracle;
 use crate::support::rng::Rng;
-use crate::support::{raw, rounds, shapes, Always, Call};
+use crate::support::{raw, rounds, shapes, Always, Call, ROUNDS};
 use strlib::ffi::{self, LabelAnswer, PartAnswer};
-use strlib::{Refusal, StrPtr};
+use strlib::{Refusal, StrPtr, STORE_MAX};
 
 #[test]
 fn cuts_strings_as_the_document_says() {
@@ -243,6 +242,7 @@ fn bounds_of_the_cuts() {
 
 #[test]
 fn a_store_of_65_536_bytes_is_the_longest() {
+    assert_eq!(STORE_MAX, 65_536);
     let bytes = vec![b'x'; 65_537];
     let whole = StrPtr::new(0, 65_536, 65_536);
     assert_eq!(strlib::trim(&bytes[..65_536], whole), Ok(whole));

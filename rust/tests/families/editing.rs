@@ -1,10 +1,18 @@
 //! Replacing and reversing.
 
-use super::{laid_out, ROUNDS};
+use super::laid_out;
 use crate::oracle::{self, editing};
 use crate::support::rng::Rng;
-use crate::support::{raw, rounds, shapes, Call};
+use crate::support::{raw, rounds, shapes, Call, ROUNDS};
 use strlib::{ffi, Refusal, StrPtr};
+
+/// A string with characters and room for more, and with bytes before or behind its room.
+fn with_room(rng: &mut Rng, n: usize) -> StrPtr {
+    let maximum = rng.up_to(n.min(30));
+    let start = rng.pick(&[0, (n - maximum) / 2, n - maximum]);
+    let length = maximum - rng.up_to(maximum.min(8));
+    StrPtr::new(start, length, maximum)
+}
 
 /// A part of a good string by place mostly; else just outside it, or anywhere.
 fn part(rng: &mut Rng, n: usize, string: StrPtr) -> StrPtr {
@@ -30,7 +38,10 @@ fn edits_as_the_document_says() {
         let rng = &mut round.rng;
         let store = shapes::store(rng);
         let n = store.len();
-        let one = shapes::pointer(rng, n);
+        let one = match rng.below(2) {
+            0 => shapes::pointer(rng, n),
+            _ => with_room(rng, n),
+        };
         let two = part(rng, n, one);
         let three = shapes::source(rng, n, one);
         let replaced = round.check(

@@ -1,7 +1,7 @@
 //! The plain search and the translated table on every small list and host.
 
 use crate::oracle::searching::{first_occurrence, search};
-use crate::support::{rounds, Call};
+use crate::support::{cases, Call};
 use strlib::{Note, StrList, StrPtr};
 
 /// Every text of up to `longest` letters of the alphabet, the null one first.
@@ -34,7 +34,7 @@ fn every_list(family: &'static str, longest: usize, counts: &[u32], hosts: &[Vec
     let mut words = vec![0; 31_461];
     for count in counts {
         let lists = strings.len().pow(*count) as u64;
-        rounds(family, lists, |round| {
+        cases(family, lists, |round| {
             let list = list_number(&strings, *count, round.number() as usize);
             let (mut store, pointers) = super::laid_out(&list);
             let listed = StrList::new(&pointers);

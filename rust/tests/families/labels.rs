@@ -1,9 +1,8 @@
 //! The label list.
 
-use super::ROUNDS;
 use crate::oracle::desk as oracle;
 use crate::support::rng::Rng;
-use crate::support::{raw, rounds, Always, Call};
+use crate::support::{raw, rounds, Always, Call, ROUNDS};
 use strlib::ffi::{self, PartAnswer};
 use strlib::{Name, Refusal};
 
@@ -85,9 +84,14 @@ fn damage(rng: &mut Rng, list: &mut Vec<u8>) {
     }
 }
 
-fn lookup(rng: &mut Rng) -> (u8, usize) {
+/// A kind and number, often those of a record, now and then out of range.
+fn lookup(rng: &mut Rng, list: &[u8]) -> (u8, usize) {
     let (kind, number) = kind_and_number(rng);
     match rng.below(16) {
+        3..=9 if list.len() >= RECORD => {
+            let front = RECORD * rng.below(list.len() / RECORD);
+            (list[front], list[front + 2] as usize)
+        }
         0 => (rng.pick(&[0, 3, 255]), number),
         1 => (1, rng.pick(&[0, 65, 128, 256 + 1, 65_536 + 1, usize::MAX])),
         2 => (2, rng.pick(&[0, 129, 256 + 1, 65_536 + 1, usize::MAX])),
@@ -112,7 +116,7 @@ fn labels_as_the_document_says() {
             _ => {}
         }
 
-        let (kind, number) = lookup(&mut round.rng);
+        let (kind, number) = lookup(&mut round.rng, &list);
         let found = round.check(
             Call::new("find_label", &list, (kind, number)),
             |l| oracle::find_label(l, kind, number),
@@ -172,7 +176,10 @@ fn add(round: &mut crate::support::Round, list: Vec<u8>) {
     let mut buffer = list;
     let room = rng.pick(&[0, 5, 18, 19, 19, 20, 38, 50]);
     buffer.extend((0..room).map(|i| 200 + i as u8));
-    let (kind, number) = lookup(rng);
+    let (kind, number) = match rng.below(2) {
+        0 => lookup(rng, &buffer),
+        _ => kind_and_number(rng),
+    };
     let mut name = name(rng);
     match rng.below(12) {
         0 => name.resize(17, 32),

@@ -13,9 +13,6 @@ mod pointer;
 mod searching;
 mod table;
 
-/// Rounds of a family's random test, each with an input for every call of the family.
-const ROUNDS: u64 = 200_000;
-
 use strlib::StrPtr;
 
 /// A store that holds these texts one behind the other, and a pointer to each with maximum = length.

@@ -1,10 +1,9 @@
 //! Reading and writing numbers.
 
-use super::ROUNDS;
 use crate::oracle::number as oracle;
 use crate::oracle::number::{GREATEST, LEAST};
 use crate::support::rng::Rng;
-use crate::support::{raw, rounds, shapes, Call};
+use crate::support::{raw, rounds, shapes, Call, ROUNDS};
 use strlib::{ffi, Refusal, StrPtr};
 
 fn base(rng: &mut Rng) -> usize {

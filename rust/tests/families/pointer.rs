@@ -1,8 +1,7 @@
 //! Pointers, lists and the limits.
 
-use super::ROUNDS;
 use crate::oracle;
-use crate::support::{rounds, shapes, Always, Call};
+use crate::support::{rounds, shapes, Always, Call, ROUNDS};
 use strlib::{ffi, StrList, StrPtr};
 
 #[test]

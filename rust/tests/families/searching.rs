@@ -1,8 +1,8 @@
 //! The plain search.
 
-use super::{laid_out, ROUNDS};
+use super::laid_out;
 use crate::oracle::searching as oracle;
-use crate::support::{raw, rounds, shapes, Call};
+use crate::support::{raw, rounds, shapes, Call, ROUNDS};
 use strlib::{ffi, StrList, StrPtr};
 
 #[test]
@@ -11,7 +11,10 @@ fn searches_as_the_document_says() {
         let rng = &mut round.rng;
         let store = shapes::store(rng);
         let n = store.len();
-        let host = shapes::pointer(rng, n);
+        let host = match rng.below(2) {
+            0 => shapes::pointer(rng, n),
+            _ => StrPtr::new(0, n / 2, n - n / 3),
+        };
         let list = shapes::list(rng, n, |rng| shapes::piece(rng, n));
         let arguments = (host, shapes::shown(&list));
         let found = round.check(

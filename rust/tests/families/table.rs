@@ -1,11 +1,11 @@
 //! The search table: translated lists run over hosts, and runs over made-up words.
 
-use super::{laid_out, ROUNDS};
+use super::laid_out;
 use crate::oracle::searching::first_occurrence;
 use crate::oracle::{self, table};
 use crate::support::rng::Rng;
-use crate::support::{raw, rounds, shapes, Call, Outcome, Round};
-use strlib::{ffi, Note, Refusal, Run, StrList, StrPtr};
+use crate::support::{raw, rounds, shapes, Call, Outcome, Round, ROUNDS};
+use strlib::{ffi, Note, Refusal, Run, StrList, StrPtr, LIST_CHARACTERS_MAX, TABLE_MIN};
 
 const ROOM: usize = 31_600;
 
@@ -89,10 +89,16 @@ fn host_of(rng: &mut Rng, strings: &[&[u8]]) -> Vec<u8> {
 }
 
 /// Runs the table over a host in a store of its own, and compares with the oracle's run.
-fn run(round: &mut Round, store: &Vec<u8>, host: StrPtr, words: &[u16]) -> Result<Run, Refusal> {
+fn run(
+    round: &mut Round,
+    name: &'static str,
+    store: &Vec<u8>,
+    host: StrPtr,
+    words: &[u16],
+) -> Result<Run, Refusal> {
     let front: Vec<u16> = words.iter().take(3).copied().collect();
     let answer = round.check(
-        Call::new("run", store, (host, words.len(), front)),
+        Call::new(name, store, (host, words.len(), front)),
         |s| table::run(s, host, words),
         |s| strlib::run(s, host, words),
         |s| unsafe { ffi::strlib_run(s.as_mut_ptr(), s.len(), host, words.as_ptr(), words.len()) },
@@ -105,7 +111,7 @@ fn run(round: &mut Round, store: &Vec<u8>, host: StrPtr, words: &[u16]) -> Resul
         Ok(Run { read, .. }) if read < host.length => "found, stopped",
         Ok(_) => "found, to the end",
     };
-    round.met("run", kind);
+    round.met(name, kind);
     answer
 }
 
@@ -151,7 +157,7 @@ fn a_translated_list_finds_what_the_plain_search_finds() {
                 2..=60 => shapes::put_bytes_over_127(rng, &mut host_store),
                 _ => {}
             }
-            let answer = run(round, &host_store, host, &rooms.c[..length]);
+            let answer = run(round, "run", &host_store, host, &rooms.c[..length]);
             if let Ok(Run { note, .. }) = answer {
                 let found = first_occurrence(oracle::characters(&host_store, host), &strings);
                 let found = found.map(|(string, pos1, pos2)| Note { string, pos1, pos2 });
@@ -159,11 +165,33 @@ fn a_translated_list_finds_what_the_plain_search_finds() {
                 round.same(&call, "what the plain search finds", &note, &found);
             }
             rooms.unchanged(round, &host_store);
+            if round.rng.one_in(4) {
+                let words = damaged(&mut round.rng, &rooms.c);
+                run(round, "run, damaged", &host_store, host, &words).ok();
+            }
         }
     });
     tally.expect("translate", &[1, 2, 3, 9], &[]);
     // A translated table is never refused.
     tally.expect("run", &[1, 2, 3], &RUN_KINDS);
+    tally.expect("run, damaged", &[1, 2, 3, 10], &RUN_KINDS);
+}
+
+/// A translated table with up to 40 words changed, most of them in a way that still makes it a table.
+fn damaged(rng: &mut Rng, table: &[u16]) -> Vec<u16> {
+    let states = table[0] as usize;
+    let mut words = table[..1 + 130 * states].to_vec();
+    for _ in 0..rng.up_to(40) {
+        let row = 1 + 130 * rng.below(states);
+        match rng.below(24) {
+            0 => words[row + rng.below(130)] = rng.next() as u16,
+            1..=3 => words[row + 128] = rng.up_to(32) as u16,
+            4..=6 => words[row + 129] = rng.up_to(4) as u16,
+            7..=15 => words[row + 97 + rng.below(2)] = rng.below(states) as u16,
+            _ => words[row + rng.below(128)] = rng.below(states) as u16,
+        }
+    }
+    words
 }
 
 const RUN_KINDS: [&str; 4] = [
@@ -211,12 +239,22 @@ fn made_up(rng: &mut Rng, letters: &[u8]) -> Vec<u16> {
     words
 }
 
+/// Words that are small numbers, of any length; S may be in range.
+fn random_words(rng: &mut Rng) -> Vec<u16> {
+    let length = rng.up_to(800);
+    let most = rng.pick(&[2, 3, 4, 7, 300]);
+    (0..length).map(|_| rng.below(most) as u16).collect()
+}
+
 #[test]
 fn made_up_words_run_as_the_document_says() {
     let tally = rounds("made-up table", ROUNDS, |round| {
         let rng = &mut round.rng;
         let letters = rng.pick(&[b"ab".as_slice(), b"abc", b"\0\x7f", b"a"]);
-        let words = made_up(rng, letters);
+        let words = match rng.below(12) {
+            0 => random_words(rng),
+            _ => made_up(rng, letters),
+        };
         let length = rng.up_to(14);
         let mut store: Vec<u8> = (0..length).map(|_| rng.pick(letters)).collect();
         if length > 0 && rng.one_in(12) {
@@ -234,7 +272,7 @@ fn made_up_words_run_as_the_document_says() {
             _ => StrPtr::new(0, store.len(), store.len()),
         };
         let before = words.clone();
-        let answer = run(round, &store, host, &words);
+        let answer = run(round, "run", &store, host, &words);
         let call = Call::new("run", &store, (host, &words));
         round.same(&call, "words", &words, &before);
         if answer.refusal() == 10
@@ -328,6 +366,7 @@ fn translated(store: &[u8], strings: &[StrPtr], host: &[u8]) -> Result<Option<No
 
 #[test]
 fn a_list_of_240_characters_is_the_longest() {
+    assert_eq!((LIST_CHARACTERS_MAX, TABLE_MIN), (240, 31_461));
     let mut rng = Rng::of_round(0, "240", 0);
     let store: Vec<u8> = (0..241).map(|_| rng.below(128) as u8).collect();
     let one = [StrPtr::new(0, 240, 241)];
@@ -378,7 +417,7 @@ fn long_lists_over_hosts_made_of_them() {
         for _ in 0..10 {
             let host_store = host_of(&mut round.rng, &texts);
             let host = StrPtr::new(0, host_store.len(), host_store.len());
-            let answer = run(round, &host_store, host, &rooms.c[..31_461]);
+            let answer = run(round, "run", &host_store, host, &rooms.c[..31_461]);
             let found = first_occurrence(&host_store, &texts);
             let found = found.map(|(string, pos1, pos2)| Note { string, pos1, pos2 });
             let call = Call::new("run", &host_store, &texts);

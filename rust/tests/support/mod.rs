@@ -21,13 +21,33 @@ fn from_environment<T: FromStr>(name: &str) -> Option<T> {
     }
 }
 
-/// Runs `each` for `usual` rounds, or as many as STRLIB_ROUNDS says, every round with random numbers of its own.
-pub fn rounds(family: &'static str, usual: u64, mut each: impl FnMut(&mut Round)) -> Tally {
+/// Rounds of a family's random test, each with an input for every call of the family.
+pub const ROUNDS: u64 = 200_000;
+
+/// `usual`, or in proportion to it if STRLIB_ROUNDS stands in place of [`ROUNDS`].
+fn in_proportion(usual: u64) -> u64 {
+    match from_environment::<u64>("STRLIB_ROUNDS") {
+        Some(rounds) => (usual * rounds).div_ceil(ROUNDS),
+        None => usual,
+    }
+}
+
+/// Runs `each` for `usual` rounds or in proportion, every round with random numbers of its own.
+pub fn rounds(family: &'static str, usual: u64, each: impl FnMut(&mut Round)) -> Tally {
+    let rounds = in_proportion(usual);
+    run(family, rounds, rounds >= usual, each)
+}
+
+/// Runs `each` once for each of so many cases, or for the first of them if STRLIB_ROUNDS asks for less.
+pub fn cases(family: &'static str, cases: u64, each: impl FnMut(&mut Round)) {
+    run(family, in_proportion(cases).min(cases), false, each);
+}
+
+fn run(family: &'static str, rounds: u64, full: bool, mut each: impl FnMut(&mut Round)) -> Tally {
     let seed = from_environment("STRLIB_SEED").unwrap_or(SEED);
-    let rounds = from_environment("STRLIB_ROUNDS").unwrap_or(usual);
     let mut tally = Tally {
         family,
-        full: rounds >= usual,
+        full,
         met: BTreeMap::new(),
     };
     for number in 0..rounds {

@@ -40,7 +40,7 @@ pub fn store(rng: &mut Rng) -> Vec<u8> {
     let length = match rng.below(600) {
         0 => 65_536,
         1 => rng.pick(&[65_537, 65_537, 70_000]),
-        _ => rng.up_to(40),
+        _ => rng.up_to(40).max(rng.up_to(30)),
     };
     let mut store = characters(rng, length);
     if rng.one_in(6) {
@@ -54,21 +54,23 @@ pub fn size(rng: &mut Rng, limit: usize) -> usize {
     match rng.below(8) {
         0 => limit,
         1 => rng.up_to(limit),
-        _ => rng.up_to(limit.min(10)),
+        2 => rng.up_to(limit.min(2)),
+        _ => limit.min(1 + rng.up_to(14)),
     }
 }
 
-/// A good pointer whose room lies in `from` to `to`.
+/// A good pointer whose room lies in `from` to `to`, seldom empty.
 pub fn good(rng: &mut Rng, from: usize, to: usize) -> StrPtr {
-    let start = match rng.below(8) {
-        0 => from,
-        1 => to,
-        _ => from + rng.up_to(to - from),
+    let start = match rng.below(12) {
+        0 | 1 => from,
+        2 => to,
+        _ => from + rng.up_to((to - from).saturating_sub(1)),
     };
     let maximum = size(rng, to - start);
-    let length = match rng.below(3) {
-        0 => maximum,
-        _ => rng.up_to(maximum),
+    let length = match rng.below(8) {
+        0 => rng.up_to(maximum.min(1)),
+        1..=3 => maximum,
+        _ => maximum - rng.up_to(maximum.saturating_sub(1)),
     };
     StrPtr::new(start, length, maximum)
 }

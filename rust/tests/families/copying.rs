@@ -178,17 +178,17 @@ fn rounds_of_a_join_complete_when_due() {
 }
 
 #[test]
-fn a_join_of_65_535_characters_in_rounds() {
+fn a_join_of_65_520_characters_in_rounds() {
     let mut store = vec![b'a'; 65_536];
-    let to = StrPtr::new(0, 0, 1);
+    let to = StrPtr::new(0, 0, 16);
     let list = StrList::new(&[
-        StrPtr::new(1, 30_000, 65_535),
+        StrPtr::new(16, 30_001, 65_520),
         StrPtr::new(9, 0, 0),
-        StrPtr::new(30_001, 35_535, 35_535),
+        StrPtr::new(30_017, 35_519, 35_519),
     ]);
-    let pieces = pieces(&mut store, to, &list, 65_535);
-    assert_eq!(pieces.len(), 65_535);
-    assert!(pieces.iter().all(|piece| piece == b"a"));
+    let pieces = pieces(&mut store, to, &list, 4_095);
+    assert_eq!(pieces.len(), 4_095);
+    assert!(pieces.iter().all(|piece| piece == &[b'a'; 16]));
 }
 
 #[test]

@@ -271,10 +271,10 @@ fn made_up_words_run_as_the_document_says() {
             0 => shapes::pointer(rng, store.len()),
             _ => StrPtr::new(0, store.len(), store.len()),
         };
-        let before = words.clone();
-        let answer = run(round, "run", &store, host, &words);
+        let lent = words.clone();
+        let answer = run(round, "run", &store, host, &lent);
         let call = Call::new("run", &store, (host, &words));
-        round.same(&call, "words", &words, &before);
+        round.same(&call, "words", &lent, &words);
         if answer.refusal() == 10
             && matches!(words.first(), Some(s @ 2..=6) if words.len() > 130 * *s as usize)
         {

@@ -69,7 +69,7 @@ fn damage(rng: &mut Rng, list: &mut Vec<u8>) {
     }
     let front = RECORD * rng.below(list.len() / RECORD);
     match rng.below(7) {
-        0 => list[front] = rng.pick(&[0, 3, 32, 255, 3 - list[front]]),
+        0 => list[front] = rng.pick(&[0, 3, 32, 255, list[front] ^ 3]),
         1 => list[front + 1] = rng.pick(&[1, 255]),
         2 => list[front + 2] = rng.pick(&[0, 64, 65, 128, 129, 255]),
         3 | 4 => {

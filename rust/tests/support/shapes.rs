@@ -149,6 +149,11 @@ pub fn list(rng: &mut Rng, n: usize, mut string: impl FnMut(&mut Rng) -> StrPtr)
     for item in &mut list.items[..count] {
         *item = string(rng);
     }
+    if count > 1 && rng.one_in(8) {
+        // One string over and over, and another at the end.
+        let first = list.items[0];
+        list.items[1..count - 1].fill(first);
+    }
     if count > 0 && rng.one_in(15) {
         let i = rng.below(count);
         let start = rng.up_to(n);

@@ -222,6 +222,11 @@ fn made_up(rng: &mut Rng, letters: &[u8]) -> Vec<u16> {
             words[row + 129] = if state == 1 { 0 } else { rng.up_to(2) as u16 };
         }
     }
+    if rng.one_in(200) {
+        // As many states as there may be, or one more.
+        words[0] = rng.pick(&[242, 243]);
+        words.resize(1 + 130 * words[0] as usize, 32);
+    }
     let state = 1 + 130 * (1 + rng.below(states - 1));
     let letter = rng.pick(letters) as usize;
     match rng.below(24) {
@@ -280,12 +285,19 @@ fn made_up_words_run_as_the_document_says() {
         {
             round.met("run", "refused on the way");
         }
+        if answer.is_ok() && words[0] == 242 {
+            round.met("run", "242 states");
+        }
         if matches!(answer, Ok(Run { note: Some(note), .. }) if note.string == 32) {
             round.met("run", "string 32");
         }
     });
     tally.expect("run", &[1, 2, 3, 10], &RUN_KINDS);
-    tally.expect("run", &[1, 2, 3, 10], &["refused on the way", "string 32"]);
+    tally.expect(
+        "run",
+        &[1, 2, 3, 10],
+        &["refused on the way", "string 32", "242 states"],
+    );
 }
 
 /// A table with one letter's rows good and everything else out of range.

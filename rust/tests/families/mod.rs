@@ -1,0 +1,27 @@
+//! Tests by family of calls.
+
+mod charset;
+mod comparing;
+mod copying;
+mod cues;
+mod cutting;
+mod editing;
+mod exhaustive;
+mod labels;
+mod number;
+mod pointer;
+mod searching;
+mod table;
+
+use strlib::StrPtr;
+
+/// A store that holds these texts one behind the other, and a pointer to each with maximum = length.
+fn laid_out(texts: &[&[u8]]) -> (Vec<u8>, Vec<StrPtr>) {
+    let mut store = Vec::new();
+    let mut strings = Vec::new();
+    for text in texts {
+        strings.push(StrPtr::new(store.len(), text.len(), text.len()));
+        store.extend_from_slice(text);
+    }
+    (store, strings)
+}

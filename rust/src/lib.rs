@@ -3,6 +3,9 @@
 //! A store is a slice of bytes that the caller lends, at most 65,536 of them; a string is a [`StrPtr`] into it. Every call
 //! takes any bytes, pointers and numbers and checks them itself. A [`Refusal`] changes nothing that was lent.
 //!
+//! `rt staticlib strlib_c` in the folder above makes the library that this package links; `cargo test --release` compares every
+//! call with document 01.
+//!
 //! ```
 //! use strlib::{search, StrList, StrPtr};
 //!

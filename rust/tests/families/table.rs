@@ -167,7 +167,10 @@ fn a_translated_list_finds_what_the_plain_search_finds() {
             rooms.unchanged(round, &host_store);
             if round.rng.one_in(4) {
                 let words = damaged(&mut round.rng, &rooms.c);
-                run(round, "run, damaged", &host_store, host, &words).ok();
+                let lent = words.clone();
+                run(round, "run, damaged", &host_store, host, &lent).ok();
+                let call = Call::new("run, damaged", &host_store, host);
+                round.same(&call, "words", &(lent == words), &true);
             }
         }
     });

@@ -1,8 +1,8 @@
 /* Pathferrous: the calls of the string library and of the desk, for C.
  *
  * Every call takes any bytes, pointers and numbers and checks them itself. A refusal gives its number (README.md has the table), changes
- * nothing that was lent, and leaves the answer's other fields 0; 0 is no refusal. Memory is lent as a pointer and a number of elements, the
- * pointer that of so many elements. What is lent to be written (a pointer without const) shares no byte with anything else lent to the
+ * nothing that was lent, and leaves the answer's other fields 0; 0 is no refusal. Memory is lent as a pointer and a number of elements; with
+ * the number 0 the pointer may be NULL. What is lent to be written (a pointer without const) shares no byte with anything else lent to the
  * same call. Each call is proved to answer what its rule in crates/<name>/specs says.
  */
 #ifndef STRLIB_H

@@ -52,7 +52,7 @@ typedef struct { uint8_t refusal; bool completed; strlib_ptr to; strlib_place ne
 /* a part of the bytes that were lent: where it begins (from 0), and its length */
 typedef struct { size_t offset, length; } strlib_part;
 
-/* a part of the house name where `house`, else of the production name */
+/* the desk label: a part of the house name where `house`, else of the production name */
 typedef struct { bool house; size_t offset, length; } strlib_label;
 
 /* where found: the string's number in the list (from 1), and the host's parts. Nothing found is no refusal. */
@@ -71,7 +71,7 @@ typedef struct { uint8_t refusal; size_t microphone, loudspeaker; int64_t gain; 
 
 typedef struct { uint8_t refusal; size_t value; } strlib_size;
 
-/* where found: the trimmed name's place in the label list (from 0) and its length */
+/* a lookup in the label list; where found: the trimmed name's place in it (from 0) and its length */
 typedef struct { uint8_t refusal; bool found; size_t place, length; } strlib_name;
 
 /* ---- pointers */
@@ -147,13 +147,15 @@ strlib_string strlib_write_number(uint8_t *store, size_t store_length, strlib_pt
 
 /* ---- the desk */
 
-/* `MIC n TO LSP m GAIN g`, for a matrix of 1 to 64 by 1 to 128: refusals 3, 2, 11, then 7 or 8 from left to right, 12 */
+/* `MIC n TO LSP m GAIN g`, for a matrix of 1 to 64 by 1 to 128: refusals 3 (a line over 65,536 bytes, the sizes), 2, 11, then 7 or 8 from left
+ * to right, 12 */
 strlib_cue strlib_read_cue(const uint8_t *line, size_t line_length, size_t microphones, size_t loudspeakers);
 
 /* how many records: refusals, record by record, 11 (kind, short body), 12, 2, 11 (repeated) */
 strlib_size strlib_read_labels(const uint8_t *list, size_t list_length);
 
-/* kind 1 microphone, 2 loudspeaker: the list's refusals, then 11 (kind), 12 */
+/* kind 1 microphone, 2 loudspeaker, one byte, so that C cuts a greater number down before the call sees it: the list's refusals, then 11 (kind),
+ * 12 */
 strlib_name strlib_find_label(const uint8_t *list, size_t list_length, uint8_t kind, size_t number);
 
 /* the same as a part: on a refusal or no record the empty part at the front */

@@ -5,6 +5,7 @@ mod scans;
 mod strings;
 
 use std::time::{Duration, Instant};
+use strlib::StrPtr;
 
 /// The shortest of many timed calls, after some that warm up; at least 30 calls and a fifth of a second.
 fn best(mut call: impl FnMut()) -> Duration {
@@ -23,6 +24,11 @@ fn best(mut call: impl FnMut()) -> Duration {
         calls += 1;
     }
     least
+}
+
+/// A string that fills its room.
+fn full(start: usize, length: usize) -> StrPtr {
+    StrPtr::new(start, length, length)
 }
 
 /// One row of the table.

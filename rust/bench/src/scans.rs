@@ -3,12 +3,9 @@
 use std::fs;
 use std::hint::black_box;
 use std::time::{Duration, Instant};
-use strlib::{StrList, StrPtr};
+use strlib::{StrList, TABLE_MIN};
 
-use crate::{best, peers, row};
-
-/// Words in a table's room.
-const TABLE: usize = 31_461;
+use crate::{best, full, peers, row};
 
 /// Characters of a line of the scanned file, and its lines.
 const LINE: usize = 65_535;
@@ -43,18 +40,10 @@ fn store_of(strings: &[Vec<u8>]) -> (Vec<u8>, StrList) {
     let mut store = Vec::new();
     let mut pointers = Vec::new();
     for string in strings {
-        pointers.push(whole(store.len(), string.len()));
+        pointers.push(full(store.len(), string.len()));
         store.extend_from_slice(string);
     }
     (store, StrList::new(&pointers))
-}
-
-fn whole(start: usize, length: usize) -> StrPtr {
-    StrPtr {
-        start,
-        length,
-        maximum: length,
-    }
 }
 
 /// Remarks in small letters and capitals in which no listed string stands, though many begin.
@@ -72,11 +61,11 @@ pub fn all() {
 
 fn one_list(list: &Lists) {
     let (store, pointers) = store_of(&list.strings);
-    let mut table = vec![0; TABLE];
+    let mut table = vec![0; TABLE_MIN];
     let translated =
         best(|| strlib::translate(black_box(&store), black_box(&pointers), &mut table).unwrap());
     let host = remarks(65_536);
-    let over = whole(0, host.len());
+    let over = full(0, host.len());
     let ran = best(|| {
         let said = strlib::run(black_box(&host), over, black_box(&table)).unwrap();
         assert!(said.note.is_none() && said.read == host.len());
@@ -85,7 +74,7 @@ fn one_list(list: &Lists) {
         // the plain search takes its list from the host's store, so the host is shorter by the strings
         let mut both = store.clone();
         both.extend_from_slice(&host[..host.len() - store.len()]);
-        let over = whole(store.len(), host.len() - store.len());
+        let over = full(store.len(), host.len() - store.len());
         assert!(strlib::search(black_box(&both), over, &pointers)
             .unwrap()
             .is_none());
@@ -140,7 +129,7 @@ fn file(list: &Lists) {
     }
     fs::write(&path, &text).unwrap();
     let (store, pointers) = store_of(&list.strings);
-    let mut table = vec![0; TABLE];
+    let mut table = vec![0; TABLE_MIN];
     let mut ours = Duration::MAX;
     let mut scanned = Duration::MAX;
     for _ in 0..5 {
@@ -150,7 +139,7 @@ fn file(list: &Lists) {
         strlib::translate(&store, &pointers, &mut table).unwrap();
         let lines = bytes[..bytes.len() - 1].split(|b| *b == b'\n');
         let found = lines.filter(|line| {
-            strlib::run(line, whole(0, line.len()), &table)
+            strlib::run(line, full(0, line.len()), &table)
                 .unwrap()
                 .note
                 .is_some()

@@ -2,22 +2,14 @@
 
 use std::ffi::{c_char, c_int, c_longlong, c_void};
 use std::hint::black_box;
-use strlib::{StrList, StrPtr};
+use strlib::StrList;
 
-use crate::{best, row};
+use crate::{best, full, row};
 
 extern "C" {
     fn memcpy(to: *mut c_void, from: *const c_void, n: usize) -> *mut c_void;
     fn memcmp(a: *const c_void, b: *const c_void, n: usize) -> c_int;
     fn strtoll(text: *const c_char, end: *mut *mut c_char, base: c_int) -> c_longlong;
-}
-
-fn full(start: usize, length: usize) -> StrPtr {
-    StrPtr {
-        start,
-        length,
-        maximum: length,
-    }
 }
 
 pub fn all() {

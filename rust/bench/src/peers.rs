@@ -58,7 +58,7 @@ print(time.perf_counter() - begin, count)
 /// The crate aho-corasick as a DFA that answers by the earliest start and then the first listed, with and without its prefilter.
 #[cfg(feature = "peers")]
 pub mod aho {
-    use aho_corasick::{AhoCorasick, AhoCorasickBuilder, MatchKind};
+    use strlib_peers::aho_corasick::{AhoCorasick, AhoCorasickBuilder, MatchKind};
 
     pub fn build(strings: &[Vec<u8>], prefilter: bool) -> AhoCorasick {
         AhoCorasickBuilder::new()

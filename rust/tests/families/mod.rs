@@ -8,6 +8,7 @@ mod cutting;
 mod editing;
 mod exhaustive;
 mod labels;
+mod null;
 mod number;
 mod pointer;
 mod searching;

@@ -1,0 +1,1 @@
+pub use aho_corasick;

@@ -1,26 +1,51 @@
 -- Laws of a text that grows in a buffer: byte by byte, and text behind text. Assumes nothing.
 use mathlib.Core.Path.{_≡_, refl, sym, ap, _∙_}
 use mathlib.Core.List.{List, [], _∷_, _++_, append-assoc, append-nil}
-use Prim.Native.Nat.{ℕ, zero, suc, _+_, _≤_, _<_, min}
+use Prim.Native.Nat.{ℕ, zero, suc, _+_, _-_, _≤_, _<_, min}
 use native.Mathlib.Numerals.{add-one}
 use native.Mathlib.Omega.{arith}
 use borrow.Author.Needs.{needs}
-use lib.ListN.{length, getD, set, take, drop, length-take, length-append, length-set, take-append-drop}
-use lib.Seq.{take-all, take-suc, take-suc-set, take-append-le}
+use lib.ListN.{length, getD, set, take, drop, length-take, length-append}
+use lib.Seq.{take-all, take-suc, take-at, take-nil}
 use Rattle.strlib.proofs.Pointing.{either}
-use Rattle.buffer.specs.Buffer.{Grown}
+use Rattle.strlib.proofs.Storing.{put-none, put-length, put-put, put-more, take-min, take-append}
+use Rattle.strlib.specs.Store.{put}
+use Rattle.buffer.specs.Buffer.{grown}
 
-pub front-is : (s : List ℕ) (n e : ℕ) → e ≡ min n (length s) → take e s ≡ take n s
-front-is s n e q =
-    either n (length s)
-    (λ (h : n ≤ length s). let k : e ≡ n = omega arith in rw k)
-    (λ (h : length s < n).
-    let k : length s ≤ e = omega arith in
-    let l : length s ≤ n = omega arith in
-    take-all e s k ∙ sym (take-all n s l))
+-- ---- byte by byte: `count` bytes of the text fit behind the first `at`
 
-pub front-length : (s : List ℕ) (n e : ℕ) → e ≡ min n (length s) → e ≡ length (take e s)
-front-length s n e q = rw length-take (omega arith)
+module _ (b : List ℕ) (n at : ℕ) (t : List ℕ) (count : ℕ) (ea : at ≡ min n (length b)) (ec : count ≡ min (length t) (length b - at)) where
+  pub grow-start : b ≡ put b at (take 0 t)
+  grow-start = sym (put-none b at)
+
+  module _ (b′ : List ℕ) (i : ℕ) (e : b′ ≡ put b at (take i t)) where
+    pub grow-step : i < count → set b′ (at + i) (getD t i 0) ≡ put b at (take (i + 1) t)
+    grow-step h =
+        let l : length (take i t) ≡ i = rw length-take (omega arith) in
+        let m : at + length (take i t) < length b = omega arith in
+        rw (e, add-one, take-suc t i 0 (omega arith)) (rw l at (put-more b at (take i t) (getD t i 0) m))
+
+    pub grow-end : i ≤ count → count ≤ i → (at + count, b′) ≡ grown b n t
+    unfolding grown
+    grow-end h k =
+        let j : i ≡ count = omega arith in
+        let c : at + count ≡ min (n + length t) (length b) = omega arith in
+        either n (length b)
+        (λ (g : n ≤ length b).
+        let a : at ≡ n = omega arith in
+        let f : take i t ≡ take (length b - n) t =
+        either (length t) (length b - n)
+        (λ (x : length t ≤ length b - n). take-all i t (omega arith) ∙ sym (take-all (length b - n) t x))
+        (λ (x : length b - n < length t). let y : i ≡ length b - n = omega arith in rw y) in
+        rw (e, f, c, a))
+        (λ (g : length b < n).
+        let z : length b - n ≡ 0 = omega arith in
+        let y : i ≡ 0 = omega arith in
+        rw (e, y, z, c, put-none b at, put-none b n))
+
+pub ruleset grow-laws = (needs, grow-start, grow-step, grow-end)
+
+-- ---- what follows from the equation
 
 -- what is cut off anyway may be cut off before
 pub take-twice : (l : ℕ) (x u : List ℕ) → take l (take l x ++ u) ≡ take l (x ++ u)
@@ -28,62 +53,91 @@ take-twice zero x u = refl
 take-twice (suc l) [] u = refl
 take-twice (suc l) (a ∷ x) u = ap (λ (r : List ℕ). a ∷ r) (take-twice l x u)
 
-pub grow-start : (b : List ℕ) (n r : ℕ) → r ≡ min n (length b) → Grown b n b r []
-grow-start b n r q =
-    let k : length (take n b ++ []) ≤ length b = simp (append-nil, length-take) (omega arith) in
-    record { size = refl; inside = omega arith; bytes = front-is b n r q ∙ sym (take-all (length b) (take n b ++ []) k ∙ append-nil (take n b)) }
+put-head : (b : List ℕ) (k : ℕ) (y : List ℕ) (m : ℕ) → length (take k b ++ y) ≡ m → take m (put b k y) ≡ take k b ++ y
+unfolding put
+put-head b k y m e = take-at (take k b ++ y) (drop (k + length y) b) m e
 
-module _ (b : List ℕ) (n : ℕ) (b′ : List ℕ) (r : ℕ) (t : List ℕ) (i : ℕ) (g : Grown b n b′ r (take i t)) where
-  count-is : min (length b) (length (take n b ++ take i t)) ≡ r
-  count-is =
-      let e : length (take r b′) ≡ length (take (length b) (take n b ++ take i t)) = ap length (g .bytes) in
-      let f : min r (length b′) ≡ min (length b) (length (take n b ++ take i t)) = rw (length-take r b′, length-take (length b) (take n b ++ take i t)) at e in
-      omega (arith, g .inside, g .size)
+module _ (b : List ℕ) (n : ℕ) (b′ : List ℕ) (r : ℕ) (t : List ℕ) (g : (r, b′) ≡ grown b n t) where
+  pub grown-count : r ≡ min (n + length t) (length b)
+  unfolding grown
+  grown-count = ap (λ (z : ℕ × List ℕ). z .0) g
 
-  pub grow-step : r < length b′ → i < length t → Grown b n (set b′ r (getD t i 0)) (r + 1) (take (i + 1) t)
-  grow-step h k =
-      let x = take n b ++ take i t in
-      let lx : length x ≡ r = omega (arith, count-is, g .size) in
-      let e : take r b′ ≡ x = g .bytes ∙ take-all (length b) x (omega (arith, g .size)) in
-      let u : length (x ++ (getD t i 0 ∷ [])) ≤ length b = rw length-append (omega (arith, g .size)) in
-      record {
-        size = length-set b′ r (getD t i 0) ∙ g .size;
-        inside = simp length-set (omega arith);
-        bytes =
-            rw (add-one, take-suc-set b′ r (getD t i 0) h, e)
-            (sym (ap (take (length b)) (ap (λ (y : List ℕ). take n b ++ y) (rw (add-one i) (take-suc t i 0 k)) ∙ sym (append-assoc (take n b) (take i t) (getD t i 0 ∷ [])))
-            ∙ take-all (length b) (x ++ (getD t i 0 ∷ [])) u));
-      }
+  grown-put : b′ ≡ put b n (take (length b - n) t)
+  unfolding grown
+  grown-put = ap (λ (z : ℕ × List ℕ). z .1) g
 
-  pub grow-full : length b′ ≤ r → Grown b n b′ r t
-  grow-full h =
-      let x = take n b ++ take i t in
-      let lx : length b ≤ length x = omega (arith, count-is, g .size, g .inside) in
-      record {
-        size = g .size;
-        inside = g .inside;
-        bytes =
-            g .bytes ∙ sym (ap (λ (y : List ℕ). take (length b) (take n b ++ y)) (sym (take-append-drop i t))
-            ∙ ap (take (length b)) (sym (append-assoc (take n b) (take i t) (drop i t))) ∙ take-append-le (length b) x (drop i t) lx);
-      }
+  pub grown-size : length b′ ≡ length b
+  grown-size =
+      either n (length b)
+      (λ (h : n ≤ length b). rw grown-put (put-length b n (take (length b - n) t) (rw length-take (omega arith))))
+      (λ (h : length b < n). let z : length b - n ≡ 0 = omega arith in rw (grown-put, z, put-none b n))
 
-  pub grow-end : length t ≤ i → Grown b n b′ r t
-  grow-end h = record { size = g .size; inside = g .inside; bytes = rw (take-all i t h) at (g .bytes) }
+  pub grown-inside : r ≤ length b′
+  grown-inside = omega (arith, grown-count, grown-size)
 
-pub ruleset grow-laws = (needs, grow-start, grow-step, grow-full, grow-end)
+  -- the bytes that are there then
+  pub grown-bytes : take r b′ ≡ take (length b) (take n b ++ t)
+  grown-bytes =
+      either n (length b)
+      (λ (h : n ≤ length b).
+      let y : List ℕ = take (length b - n) t in
+      let ln : length (take n b) ≡ n = rw length-take (omega arith) in
+      let ly : length (take n b ++ y) ≡ r = rw length-append (rw (ln, length-take (length b - n) t) (omega (arith, grown-count))) in
+      let m : take (length b) (take n b) ≡ take n b = take-all (length b) (take n b) (omega arith) in
+      let there : take r (put b n y) ≡ take n b ++ y = put-head b n y r ly in
+      let cut : take (length b) (take n b ++ t) ≡ take n b ++ y = rw (take-append (length b) (take n b) t, m, ln) in
+      rw (grown-put, there, cut))
+      (λ (h : length b < n).
+      let z : length b - n ≡ 0 = omega arith in
+      let q : length b ≡ r = omega (arith, grown-count) in
+      let w : length b - length b ≡ 0 = omega arith in
+      let cut : take (length b) (take n b ++ t) ≡ b =
+      rw (take-all n b (omega arith), take-append (length b) b t, take-all (length b) b (omega arith), w, append-nil b) in
+      rw (grown-put, z, put-none b n, cut) (take-all r b (omega arith)))
+
+module _ (b : List ℕ) (n r : ℕ) (t : List ℕ) (l : ℕ) (el : l ≡ length b) (er : r ≡ min (n + length t) (length b)) (k : n ≤ length b) where
+  room-left : length t ≤ length b - n → l - r ≡ length b - n - length t
+  room-left x = let y : r ≡ n + length t = omega arith in omega arith
+
+  room-none : length b - n < length t → (l - r ≡ 0) × (length b - n - length t ≡ 0)
+  room-none x = let y : r ≡ length b = omega arith in (omega arith, omega arith)
 
 -- text behind text
-pub grow-more : (b : List ℕ) (n : ℕ) (b′ : List ℕ) (r : ℕ) (b″ : List ℕ) (q : ℕ) (t u : List ℕ) → Grown b n b′ r t → Grown b′ r b″ q u → Grown b n b″ q (t ++ u)
+pub grow-more : (b : List ℕ) (n : ℕ) (b′ : List ℕ) (r : ℕ) (b″ : List ℕ) (q : ℕ) (t u : List ℕ)
+    → (r, b′) ≡ grown b n t → (q, b″) ≡ grown b′ r u → (q, b″) ≡ grown b n (t ++ u)
+unfolding grown
 grow-more b n b′ r b″ q t u g h =
-    record {
-      size = h .size ∙ g .size;
-      inside = h .inside;
-      bytes = h .bytes ∙ rw (g .size, g .bytes) (take-twice (length b) (take n b ++ t) u ∙ ap (take (length b)) (append-assoc (take n b) t u));
-    }
+    let er : r ≡ min (n + length t) (length b) = grown-count b n b′ r t g in
+    let eb : b′ ≡ put b n (take (length b - n) t) = grown-put b n b′ r t g in
+    let es : length b′ ≡ length b = grown-size b n b′ r t g in
+    let c : min (r + length u) (length b′) ≡ min (n + length (t ++ u)) (length b) = rw length-append (omega arith) in
+    let p : put b′ r (take (length b′ - r) u) ≡ put b n (take (length b - n) (t ++ u)) =
+    either n (length b)
+    (λ (k : n ≤ length b).
+    let y : List ℕ = take (length b - n) t in
+    let ly : length y ≡ min (length b - n) (length t) = length-take (length b - n) t in
+    let f : r ≡ n + length y = omega arith in
+    let i : take (length b′ - r) u ≡ take (length b - n - length t) u =
+    either (length t) (length b - n)
+    (λ (x : length t ≤ length b - n). rw (room-left b n r t (length b′) es er k x))
+    (λ (x : length b - n < length t). let j = room-none b n r t (length b′) es er k x in rw (j .0, j .1)) in
+    rw (i, eb, f, put-put b n y k (take (length b - n - length t) u), take-append (length b - n) t u))
+    (λ (k : length b < n).
+    let z : length b - n ≡ 0 = omega arith in
+    let z′ : length b′ - r ≡ 0 = omega arith in
+    rw (z′, z, eb) (rw z (rw (put-none b n, put-none b r)))) in
+    h ∙ rw (c, p)
 
-pub grow-is : (b : List ℕ) (n : ℕ) (b′ : List ℕ) (r : ℕ) (t u : List ℕ) → t ≡ u → Grown b n b′ r t → Grown b n b′ r u
+pub grow-is : (b : List ℕ) (n : ℕ) (b′ : List ℕ) (r : ℕ) (t u : List ℕ) → t ≡ u → (r, b′) ≡ grown b n t → (r, b′) ≡ grown b n u
 grow-is b n b′ r t u e g = rw e at g
 
+-- nothing put
+pub grown-none : (b : List ℕ) (n : ℕ) → n ≤ length b → (n, b) ≡ grown b n []
+unfolding grown
+grown-none b n h =
+    let c : n ≡ min (n + 0) (length b) = omega arith in
+    rw (← c, take-nil, put-none b n)
+
 -- a text that has room stands there whole
-pub grown-whole : (b b′ : List ℕ) (r : ℕ) (t : List ℕ) → Grown b 0 b′ r t → length t ≤ length b → take r b′ ≡ t
-grown-whole b b′ r t g h = g .bytes ∙ take-all (length b) t h
+pub grown-whole : (b b′ : List ℕ) (r : ℕ) (t : List ℕ) → (r, b′) ≡ grown b 0 t → length t ≤ length b → take r b′ ≡ t
+grown-whole b b′ r t g h = grown-bytes b 0 b′ r t g ∙ take-all (length b) t h

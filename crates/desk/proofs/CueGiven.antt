@@ -1,14 +1,17 @@
--- A cue that is given lies in the matrix, and its gain in the range: every check of the rule held. Assumes nothing.
+-- What an answer to a cue line tells: a cue that is given lies in the matrix, and its gain in the range; a refusal is one of those listed.
+-- Assumes nothing.
 use mathlib.Core.Path.{_≡_, refl, sym, ap, _∙_}
 use mathlib.Core.Bool.{Bool, true, _&&_, false≢true}
 use mathlib.Core.List.{List}
-use Prim.Native.Nat.{ℕ, _≤_}
-use borrow.Author.Tests.{leb-true}
+use Prim.Native.Nat.{ℕ, _≤_, _<_}
+use borrow.Author.Tests.{leb-true, lt-leb}
 use lib.Dec.{leb}
 use lib.IntN.{ℤ, pos, negsuc, natAbs}
+use lib.ListN.{length}
 use Rattle.number.specs.Text.{numberOf}
-use Rattle.strlib.proofs.Refusing.{and-both, passed, outcome-gave}
-use Rattle.strlib.specs.Refusal.{gives}
+use Rattle.strlib.proofs.Refusing.{and-both, passed, outcome-gave, outcome-is, first-under}
+use Rattle.strlib.specs.Pointer.{storeFits}
+use Rattle.strlib.specs.Refusal.{refused, gives, outcome}
 use Rattle.desk.specs.declared.cue.Cue.{Cue}
 use Rattle.desk.specs.Cue.{isIndex, isGain, micWord, lspWord, gainWord, cueChecks, cueRefusal, cueOf, cueRule}
 
@@ -26,3 +29,16 @@ cue-given line mics lsps c e =
     let g = outcome-gave (cueRefusal line mics lsps) (cueOf n m (numberOf 10 (gainWord line))) c e in
     let ok = passed (cueChecks line mics lsps) refl (g .0) .1 .1 .1 .1 .1 .1 .1 .1 .1 .1 .1 .1 in
     rw (← (g .1)) (index-in mics n (ok .0), (index-in lsps m (ok .1 .0), ok .1 .1 .0))
+
+-- a refusal's number is at most 12
+pub cue-refused : (line : List ℕ) (mics lsps k : ℕ) → cueRule line mics lsps ≡ refused k → k ≤ 12
+unfolding cueRule cueRefusal
+cue-refused line mics lsps k e =
+    let n = cueRefusal line mics lsps in
+    let f = outcome-is n _ k e in
+    rw (← f) (first-under 12 (cueChecks line mics lsps) refl)
+
+-- a line over 65,536 bytes is refused with 3
+pub cue-too-long : (line : List ℕ) (mics lsps : ℕ) → 65536 < length line → cueRule line mics lsps ≡ refused 3
+unfolding cueRule cueRefusal storeFits outcome
+cue-too-long line mics lsps h = rw (lt-leb (length line) 65536 h)

@@ -3,7 +3,7 @@ use mathlib.Core.Path.{_≡_, sym, ap, _∙_}
 use mathlib.Core.Bool.{Bool, true, false, cond}
 use mathlib.Core.List.{List, [], _∷_, _++_}
 use Prim.Native.Nat.{ℕ, zero, suc, _+_, _/_, _%_, _^_, _≤_, _<_, zero-le}
-use native.Mathlib.Nat.{div-lt-iff-lt-mul, div-lt-self, div-le-self, pow-suc, mul-le-mul-left}
+use native.Mathlib.Nat.{div-lt-iff-lt-mul, div-lt-self, div-le-self, pow-zero, pow-suc, one-mul, mul-le-mul-left}
 use native.Mathlib.Omega.{arith}
 use lib.Dec.{ltb}
 use lib.ListN.{length, length-append}
@@ -39,6 +39,21 @@ module _ (base : ℕ) where
   pub digits-few : (n : ℕ) → length (digits base n) ≤ 36
   unfolding digits
   digits-few n = few-in 36 n
+
+  -- a number under the power k + 1 of the base has at most k + 1 digits
+  under-in : (f k n : ℕ) → 0 < base → n < base ^ suc k → length (digitsIn f base n) ≤ suc k
+  under-in zero k n b h = omega (arith, few-in zero n)
+  under-in (suc f) zero n b h = let e : base ^ 1 ≡ base = pow-suc base 0 ∙ rw (pow-zero base) (one-mul base) in rw (one-in f n (omega arith)) (omega arith)
+  under-in (suc f) (suc k) n b h =
+      either base n
+      (λ (l : base ≤ n).
+      let q : n / base < base ^ suc k = div-lt-iff-lt-mul {k = base} b .1 (rw (pow-suc base (suc k)) at h) in
+      rw (more-in f n l, length-append) (omega (arith, under-in f k (n / base) b q)))
+      (λ (l : n < base). rw (one-in f n l) (omega arith))
+
+  pub digits-under : (k n : ℕ) → 0 < base → n < base ^ suc k → length (digits base n) ≤ suc k
+  unfolding digits
+  digits-under k n b h = under-in 36 k n b h
 
   pub some-in : (k n : ℕ) → 0 < length (digitsIn (suc k) base n)
   unfolding digitsIn

@@ -74,6 +74,15 @@ returned s p z base q e =
     let g = ruled-gave (writeRefusal s p z base) (sized p (length (written base z))) q (put s (p .start) (written base z)) s e in
     rw (g .1 .1, ← (g .1 .0)) (read-back s p z base (passed (writeChecks s p z base) refl (g .0)))
 
+-- whatever pointer a write returned, the number is in the range and the pointer names its text
+pub write-gave : (s : List ℕ) (p : StrPtr) (z : ℤ) (base : ℕ) (q : StrPtr) → writeRule s p z base .0 ≡ gives q
+    → (inRange z ≡ true) × (textOf (writeRule s p z base .1) q ≡ written base z)
+unfolding writeRule writeRefusal
+write-gave s p z base q e =
+    let g = ruled-gave (writeRefusal s p z base) (sized p (length (written base z))) q (put s (p .start) (written base z)) s e in
+    let ok = passed (writeChecks s p z base) refl (g .0) in
+    (ok .1 .1 .1 .0, rw (g .1 .1, ← (g .1 .0)) (named s p z base ok))
+
 calls : (s : List ℕ) (p : StrPtr) (z : ℤ) (base : ℕ)
     → storeFits s ≡ true → isBase base ≡ true → goodIn (length s) p ≡ true → inRange z ≡ true → length (written base z) ≤ p .maximum
     → (writeRule s p z base .0 ≡ gives (sized p (length (written base z))))

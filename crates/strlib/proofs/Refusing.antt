@@ -3,11 +3,11 @@
 use mathlib.Core.Path.{_≡_, refl, sym, ap, _∙_}
 use mathlib.Core.Bool.{Bool, true, false, cond, _&&_, false≢true}
 use mathlib.Core.List.{List, [], _∷_, _++_}
-use Prim.Native.Nat.{ℕ, zero, suc, _<_}
+use Prim.Native.Nat.{ℕ, zero, suc, _≤_, _<_, zero-le}
 use native.Mathlib.Omega.{arith}
-use lib.Dec.{ltb}
+use lib.Dec.{leb, ltb}
 use borrow.Author.Needs.{needs}
-use borrow.Author.Tests.{ltb-true}
+use borrow.Author.Tests.{leb-true, ltb-true}
 use Rattle.strlib.specs.Refusal.{Outcome, refused, gives, first, also, outcome, after, ruled}
 
 -- a case split that keeps the equation, usable inside a clause, so that its branches may make recursive calls
@@ -88,6 +88,22 @@ passed (c ∷ cs) h e =
     let p = pass-one (c .0) (c .1) (first cs) (ltb-true 0 (c .0) (b .0)) e in
     (p .0, passed cs (b .1) (p .1))
 
+-- ---- the number found is one of those listed
+
+abbrev pub numberedTo : ℕ → List (ℕ × Bool) → Bool
+numberedTo m [] = true
+numberedTo m (c ∷ cs) = leb (c .0) m && numberedTo m cs
+
+pub first-under : (m : ℕ) (cs : List (ℕ × Bool)) → numberedTo m cs ≡ true → first cs ≤ m
+first-under m [] h = zero-le
+first-under m (c ∷ cs) h =
+    let b = and-both (leb (c .0) m) (numberedTo m cs) h in
+    go (c .1) (leb-true (c .0) m (b .0)) (first-under m cs (b .1))
+  where
+    go : (ok : Bool) → c .0 ≤ m → first cs ≤ m → cond ok (first cs) (c .0) ≤ m
+    go true x y = y
+    go false x y = x
+
 -- ---- checks made in two stages: those behind count only where those before found nothing
 
 pub first-before : (cs ds : List (ℕ × Bool)) (k : ℕ) → k ≡ first cs → (k ≡ 0 → ⊥) → k ≡ first (cs ++ ds)
@@ -151,6 +167,11 @@ pub outcome-refused : {A B : Type 0} (k : ℕ) (x : A) (y : B) (n : ℕ) → out
 unfolding outcome
 outcome-refused zero x y n e = let z : _≡_ {A = ℕ} 0 1 = cc in absurd (omega arith)
 outcome-refused (suc k) x y n e = let z : n ≡ suc k = cc in rw z
+
+pub outcome-is : {A : Type 0} (k : ℕ) (x : A) (n : ℕ) → outcome k x ≡ refused n → k ≡ n
+unfolding outcome
+outcome-is zero x n e = let z : _≡_ {A = ℕ} 0 1 = cc in absurd (omega arith)
+outcome-is (suc k) x n e = cc
 
 pub ruled-gave : {A : Type 0} (k : ℕ) (x y : A) (new old : List ℕ) → ruled k x new old .0 ≡ gives y → (k ≡ 0) × ((x ≡ y) × (ruled k x new old .1 ≡ new))
 unfolding ruled after

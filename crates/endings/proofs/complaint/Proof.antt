@@ -1,0 +1,36 @@
+use Rattle.endings.proofs.Saying.{says-laws}
+use Rattle.endings.proofs.complaint.Statement.{statement}
+use Rattle.endings.proofs.complaint.Tie as tie
+
+pub complaint-spec : {M : Type 1} → statement M
+complaint-spec =
+    tie.close
+    (tie.spec
+    (λ c. search says-laws)
+    (λ c. search says-laws)
+    (λ c κs. tt)
+    (λ c. search says-laws)
+    (λ c. search says-laws)
+    (λ c κs. tt)
+    (λ c. search says-laws)
+    (λ c κs. tt)
+    (λ c. search says-laws)
+    (λ c. search says-laws)
+    (λ c κs. tt)
+    (λ c. search says-laws)
+    (λ c. search says-laws)
+    (λ c κs. tt)
+    (λ c. search says-laws)
+    (λ c κs. tt)
+    (λ c. search says-laws)
+    (λ c. search says-laws)
+    (λ c. search says-laws)
+    (λ c. search says-laws)
+    (λ c. search says-laws)
+    (λ c. search says-laws)
+    (λ c. search says-laws)
+    (λ c. search says-laws)
+    (λ c. search says-laws)
+    (λ c. search says-laws)
+    (λ c. search says-laws)
+    (λ c. search says-laws))

@@ -1,34 +1,54 @@
--- How long answers are at most: nothing is cut off where the buffer has 152 bytes for each byte of a piece. Assumes nothing.
-use mathlib.Core.Path.{_≡_, refl}
+-- How long answers are at most: nothing is cut off where the buffer has 36 bytes for each byte of a piece, and 116 for the end.
+-- Assumes nothing.
+use mathlib.Core.Path.{_≡_, refl, sym}
 use mathlib.Core.Bool.{Bool, true, false, cond}
 use mathlib.Core.List.{List, [], _∷_, _++_}
-use Prim.Native.Nat.{ℕ, zero, suc, _+_, _-_, _*_, _≤_}
+use Prim.Native.Nat.{ℕ, zero, suc, _+_, _-_, _*_, _≤_, _<_}
 use native.Mathlib.Omega.{arith}
 use lib.Dec.{eqb}
-use lib.IntN.{natAbs}
+use lib.IntN.{ℤ, pos, negsuc, natAbs}
 use lib.ListN.{length, length-append}
-use Rattle.number.proofs.Counting.{digits-few}
-use Rattle.number.proofs.RoundTrip.{round-trip}
+use Rattle.number.proofs.Counting.{digits-under}
+use Rattle.number.specs.Written.{digits, sign, written}
 use Rattle.strlib.specs.Refusal.{Outcome, refused, gives}
+use Rattle.desk.proofs.CueGiven.{cue-given, gain-small, cue-refused}
 use Rattle.desk.specs.Cue.{cueRule}
 use Rattle.desk.specs.declared.cue.Cue.{Cue}
 use Rattle.answers.specs.Text.{heading, okText, cueText, answerText, totalText}
 use Rattle.answers.specs.Program.{counted, answersText, goods, totals, ended, lastOf, endText}
 
--- a number has at most 36 digits, and 37 characters with its sign
-cue-fits : (a : Outcome Cue) → length (cueText a) ≤ 115
+-- ---- one answer
+
+gain-fits : (z : ℤ) → natAbs z ≤ 960 → length (written 10 z) ≤ 4
+unfolding written sign
+gain-fits (pos n) h = omega (arith, digits-under 10 2 n (omega arith) (omega arith))
+gain-fits (negsuc n) h = omega (arith, digits-under 10 2 (suc n) (omega arith) (omega arith))
+
+cue-fits : (l : List ℕ) (a : Outcome Cue) → cueRule l 64 128 ≡ a → length (cueText a) ≤ 15
 unfolding cueText okText
-cue-fits (gives c) = simp length-append (omega (arith, digits-few 10 (c .microphone), digits-few 10 (c .loudspeaker), round-trip .room 10 (c .gain)))
-cue-fits (refused k) = simp length-append (omega (arith, digits-few 10 k))
+cue-fits l (gives c) e =
+    let g = cue-given l 64 128 c e in
+    let m : length (digits 10 (c .microphone)) ≤ 2 = digits-under 10 1 (c .microphone) (omega arith) (omega (arith, g .0 .1)) in
+    let s : length (digits 10 (c .loudspeaker)) ≤ 3 = digits-under 10 2 (c .loudspeaker) (omega arith) (omega (arith, g .1 .0 .1)) in
+    simp length-append (omega (arith, m, s, gain-fits (c .gain) (gain-small (c .gain) (g .1 .1))))
+cue-fits l (refused k) e =
+    let d : length (digits 10 k) ≤ 2 = digits-under 10 1 k (omega arith) (omega (arith, cue-refused l 64 128 k e)) in
+    simp length-append (omega arith)
 
-answer-fits : (n : ℕ) (a : Outcome Cue) → length (answerText n a) ≤ 152
+count-fits : (n : ℕ) → length (digits 10 (counted n)) ≤ 20
+unfolding counted
+count-fits n = digits-under 10 19 _ (omega arith) (omega arith)
+
+answer-fits : (n : ℕ) (l : List ℕ) → length (answerText (counted n) (cueRule l 64 128)) ≤ 36
 unfolding answerText
-answer-fits n a = simp length-append (omega (arith, digits-few 10 n, cue-fits a))
+answer-fits n l = simp length-append (omega (arith, count-fits n, cue-fits l (cueRule l 64 128) refl))
 
-answers-fit : (n : ℕ) (e : List (List ℕ)) → length (answersText n e) ≤ 152 * length e
+-- ---- a piece
+
+answers-fit : (n : ℕ) (e : List (List ℕ)) → length (answersText n e) ≤ 36 * length e
 unfolding answersText
 answers-fit n [] = omega arith
-answers-fit n (l ∷ ls) = simp length-append (omega (arith, answer-fits (counted (n + 1)) (cueRule l 64 128), answers-fit (n + 1) ls))
+answers-fit n (l ∷ ls) = simp length-append (omega (arith, answer-fits (n + 1) l, answers-fit (n + 1) ls))
 
 ended-few : (p s : List ℕ) → length (ended p s) ≤ length s
 unfolding ended
@@ -41,23 +61,28 @@ ended-few p (c ∷ cs) = go (ended-few [] cs) (ended-few (p ++ (c ∷ [])) cs) (
     go x y false = omega arith
 
 -- the answers to the lines of a piece
-pub piece-fits : (n : ℕ) (p s : List ℕ) → length (answersText n (ended p s)) ≤ 152 * length s
+pub piece-fits : (n : ℕ) (p s : List ℕ) → length (answersText n (ended p s)) ≤ 36 * length s
 piece-fits n p s = omega (arith, answers-fit n (ended p s), ended-few p s)
 
-totals-fit : (n k : ℕ) → length (totals n k) ≤ 128
+-- ---- the end
+
+bad-fits : (n k : ℕ) → length (digits 10 (counted n - counted k)) ≤ 20
+unfolding counted
+bad-fits n k = digits-under 10 19 _ (omega arith) (omega arith)
+
+totals-fit : (n k : ℕ) → length (totals n k) ≤ 80
 unfolding totals totalText
-totals-fit n k = simp length-append (omega (arith, digits-few 10 (counted n), digits-few 10 (counted k), digits-few 10 (counted n - counted k)))
+totals-fit n k = simp length-append (omega (arith, count-fits n, count-fits k, bad-fits n k))
 
 last-few : (q : List ℕ) → length (lastOf q) ≤ 1
 unfolding lastOf
 last-few [] = omega arith
 last-few (c ∷ cs) = omega arith
 
--- the end
-pub end-fits : (n k : ℕ) (q : List ℕ) → length (endText n k q) ≤ 280
+pub end-fits : (n k : ℕ) (q : List ℕ) → length (endText n k q) ≤ 116
 unfolding endText
 end-fits n k q = rw length-append (omega (arith, answers-fit n (lastOf q), last-few q, totals-fit (n + length (lastOf q)) (k + goods (lastOf q))))
 
-pub heading-fits : length heading ≤ 280
+pub heading-fits : length heading ≤ 116
 unfolding heading
 heading-fits = omega arith

@@ -1,4 +1,6 @@
 pub mod Putting
+pub mod Counting
 pub mod Feeding
+pub mod Turning
 pub mod Fitting
 pub mod Running

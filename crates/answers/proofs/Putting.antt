@@ -1,91 +1,64 @@
 -- Laws of the text of an answer, which is put together from its parts, and of the counters. Assumes nothing.
 use mathlib.Core.Path.{_≡_, refl, sym, ap, _∙_}
-use mathlib.Core.Bool.{Bool, true, false, cond, true≢false, false≢true}
+use mathlib.Core.Bool.{Bool, true, false, cond}
 use mathlib.Core.List.{List, [], _∷_, _++_}
-use Prim.Native.Nat.{ℕ, zero, suc, _+_, _-_, _*_, _/_, _%_, _^_, _≤_, _<_, min}
+use Prim.Native.Nat.{ℕ, zero, suc, _+_, _-_, _≤_, _<_}
 use native.Mathlib.Omega.{arith}
 use borrow.Author.Needs.{needs}
-use borrow.Author.Tests.{ltb-true, lt-ltb}
-use lib.Dec.{ltb}
-use lib.IntN.{ℤ, pos, negsuc, natAbs}
-use lib.ListN.{length, take}
-use lib.Signed.{ltZ}
+use lib.IntN.{ℤ}
 use mir.Syntax.{w64}
-use mir.Val.{Fits, SFits, toZ, ofZ}
-use mir.Facts.{toZ-ofZ}
+use mir.Val.{Fits}
 use Rattle.number.specs.Limits.{inRange}
-use Rattle.number.specs.Text.{numberOf}
-use Rattle.number.specs.Written.{digits, sign, written}
-use Rattle.strlib.proofs.Refusing.{passed}
+use Rattle.number.specs.Written.{digits, written}
 use Rattle.strlib.specs.Quoted.{bytes}
-use Rattle.strlib.specs.Refusal.{Outcome, refused, gives, first, outcome}
-use Rattle.desk.specs.Cue.{cueAnswered, micWord, lspWord, gainWord, cueChecks, cueRefusal, cueOf, cueRule}
+use Rattle.strlib.specs.Refusal.{Outcome, refused, gives}
+use Rattle.desk.proofs.CueGiven.{cue-given, gain-in-range}
+use Rattle.desk.specs.Cue.{cueAnswered, cueRule}
 use Rattle.desk.specs.declared.cue.Cue.{Cue}
 use Rattle.desk.specs.declared.cue.CueAnswer.{CueAnswer}
 use Rattle.desk.specs.declared.cue.CueAnswer.the-variants.{Cue as Given, Refused}
-use Rattle.buffer.specs.Buffer.{Grown}
+use Rattle.buffer.proofs.Growing.{grow-more}
+use Rattle.buffer.specs.Buffer.{grown, valueText}
 use Rattle.answers.specs.Text.{end, okText, cueText, totalText}
 use Rattle.answers.specs.Program.{counted, goodOf}
 use Rattle.answers.specs.Inner.{writable}
-use Rattle.buffer.proofs.Growing.{grow-is, grow-more}
-
--- ---- a gain
-
-sign-minus : (z : ℤ) → ltZ z (pos 0) ≡ true → sign z ≡ 45 ∷ []
-unfolding sign
-sign-minus (pos n) e = absurd (omega (arith, ltb-true n 0 e))
-sign-minus (negsuc n) e = refl
-
-sign-none : (z : ℤ) → ltZ z (pos 0) ≡ false → sign z ≡ []
-unfolding sign
-sign-none (pos n) e = refl
-sign-none (negsuc n) e = absurd (true≢false e)
-
-module _ (b : List ℕ) (n : ℕ) (b′ : List ℕ) (r : ℕ) (z z′ : ℤ) (v : ℕ) (f : SFits w64 z) (ev : v ≡ natAbs z′) (ez : z′ ≡ z) where
-  pub gain-minus : ltZ (toZ w64 (ofZ w64 z)) (pos 0) ≡ true → Grown b n b′ r ((45 ∷ []) ++ digits 10 v) → Grown b n b′ r (written 10 z)
-  unfolding written
-  gain-minus t g =
-      grow-is b n b′ r ((45 ∷ []) ++ digits 10 v) (sign z ++ digits 10 (natAbs z)) (rw (ev, ez, sign-minus z (rw (toZ-ofZ f) at t))) g
-
-  pub gain-plain : ltZ (toZ w64 (ofZ w64 z)) (pos 0) ≡ false → Grown b n b′ r (digits 10 v) → Grown b n b′ r (written 10 z)
-  unfolding written
-  gain-plain t g = grow-is b n b′ r (digits 10 v) (sign z ++ digits 10 (natAbs z)) (rw (ev, ez, sign-none z (rw (toZ-ofZ f) at t))) g
 
 -- ---- an answer
 
--- a cue's gain was read as a number
-pub rule-writable : (line : List ℕ) (a : Outcome Cue) → a ≡ cueRule line 64 128 → writable a ≡ true
-unfolding cueRule cueRefusal writable outcome cueOf
-rule-writable line a e = rw e (go (cueRefusal line 64 128) refl)
-  where
-    go : (k : ℕ) → cueRefusal line 64 128 ≡ k
-        → writable (outcome k (cueOf (numberOf 10 (micWord line)) (numberOf 10 (lspWord line)) (numberOf 10 (gainWord line)))) ≡ true
-    go zero q = passed (cueChecks line 64 128) refl q .1 .1 .1 .1 .1 .1 .1 .1 .1 .1 .1 .0
-    go (suc k) q = refl
+value-is : (z : ℤ) → inRange z ≡ true → valueText z ≡ written 10 z
+unfolding valueText
+value-is z e = rw e
 
-pub ok-is : (b b1 b2 b3 b4 : List ℕ) (n n1 n2 n3 n4 : ℕ) (c : Cue) (g : ℤ) → g ≡ c .gain
-    → Grown b n b1 n1 (bytes " ok " ++ digits 10 (c .microphone)) → Grown b1 n1 b2 n2 (bytes " " ++ digits 10 (c .loudspeaker))
-    → Grown b2 n2 b3 n3 (bytes " ") → Grown b3 n3 b4 n4 (written 10 g) → Grown b n b4 n4 (okText c)
+-- a cue that is given has a gain that can be written
+pub rule-writable : (line : List ℕ) (a : Outcome Cue) → a ≡ cueRule line 64 128 → writable a ≡ true
+unfolding writable
+rule-writable line (gives c) e = gain-in-range (c .gain) (cue-given line 64 128 c (sym e) .1 .1)
+rule-writable line (refused k) e = refl
+
+pub ok-is : (b b1 b2 b3 b4 : List ℕ) (n n1 n2 n3 n4 : ℕ) (c : Cue) (g : ℤ) → inRange (c .gain) ≡ true → g ≡ c .gain
+    → (n1, b1) ≡ grown b n (bytes " ok " ++ digits 10 (c .microphone)) → (n2, b2) ≡ grown b1 n1 (bytes " " ++ digits 10 (c .loudspeaker))
+    → (n3, b3) ≡ grown b2 n2 (bytes " ") → (n4, b4) ≡ grown b3 n3 (valueText g) → (n4, b4) ≡ grown b n (okText c)
 unfolding okText
-ok-is b b1 b2 b3 b4 n n1 n2 n3 n4 c g e p q u v =
-    rw (← e) (grow-more b n b3 n3 b4 n4 _ _ (grow-more b n b2 n2 b3 n3 _ _ (grow-more b n b1 n1 b2 n2 _ _ p q) u) v)
+ok-is b b1 b2 b3 b4 n n1 n2 n3 n4 c g r e p q u v =
+    let w : (n4, b4) ≡ grown b3 n3 (written 10 (c .gain)) = rw (e, value-is (c .gain) r) at v in
+    grow-more b n b3 n3 b4 n4 _ _ (grow-more b n b2 n2 b3 n3 _ _ (grow-more b n b1 n1 b2 n2 _ _ p q) u) w
 
 module _ (b : List ℕ) (n : ℕ) (b′ : List ℕ) (r : ℕ) (a : CueAnswer) where
-  pub cue-ok : (c : Cue) → a ≡ Given c → Grown b n b′ r (okText c) → Grown b n b′ r (cueText (cueAnswered a))
+  pub cue-ok : (c : Cue) → a ≡ Given c → (r, b′) ≡ grown b n (okText c) → (r, b′) ≡ grown b n (cueText (cueAnswered a))
   unfolding cueText
   cue-ok c e g = rw e g
 
-  pub cue-refused : (k : ℕ) → a ≡ Refused k → Grown b n b′ r (bytes " refused " ++ digits 10 k) → Grown b n b′ r (cueText (cueAnswered a))
+  pub cue-not : (k : ℕ) → a ≡ Refused k → (r, b′) ≡ grown b n (bytes " refused " ++ digits 10 k) → (r, b′) ≡ grown b n (cueText (cueAnswered a))
   unfolding cueText
-  cue-refused k e g = rw e g
+  cue-not k e g = rw e g
 
 pub cue-writable : (a : CueAnswer) (c : Cue) → writable (cueAnswered a) ≡ true → a ≡ Given c → inRange (c .gain) ≡ true
 unfolding writable
 cue-writable a c h e = rw e at h
 
 pub total-is : (b b1 b2 b3 b4 : List ℕ) (n n1 n2 n3 n4 lines ok bad : ℕ) → bad ≡ lines - ok
-    → Grown b n b1 n1 (bytes "total " ++ digits 10 lines) → Grown b1 n1 b2 n2 (bytes " ok " ++ digits 10 ok)
-    → Grown b2 n2 b3 n3 (bytes " refused " ++ digits 10 bad) → Grown b3 n3 b4 n4 end → Grown b n b4 n4 (totalText lines ok (lines - ok))
+    → (n1, b1) ≡ grown b n (bytes "total " ++ digits 10 lines) → (n2, b2) ≡ grown b1 n1 (bytes " ok " ++ digits 10 ok)
+    → (n3, b3) ≡ grown b2 n2 (bytes " refused " ++ digits 10 bad) → (n4, b4) ≡ grown b3 n3 end → (n4, b4) ≡ grown b n (totalText lines ok (lines - ok))
 unfolding totalText
 total-is b b1 b2 b3 b4 n n1 n2 n3 n4 lines ok bad e p q u v =
     rw (← e) (grow-more b n b3 n3 b4 n4 _ _ (grow-more b n b2 n2 b3 n3 _ _ (grow-more b n b1 n1 b2 n2 _ _ p q) u) v)
@@ -108,6 +81,6 @@ pub good-no : (n k : ℕ) (a : CueAnswer) → Fits w64 n → a ≡ Refused k →
 unfolding goodOf counted
 good-no n k a f e = rw e (omega (arith, f .fits))
 
-pub ruleset put-laws = (needs, cue-ok, cue-refused, cue-writable, rule-writable)
+pub ruleset put-laws = (needs, cue-ok, cue-not, cue-writable, rule-writable)
 
 pub ruleset count-laws = (needs, count-more, count-stays, good-yes, good-no)

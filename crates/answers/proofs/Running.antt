@@ -1,24 +1,31 @@
 -- The run: pieces one behind the other write what the whole writes, since lines that end in pieces are the lines of the whole, and the
--- counters and the bytes held stand for the true ones. Assumes nothing.
+-- counters and the bytes held stand for the true ones; a run that has ended writes nothing more. Assumes nothing.
 use mathlib.Core.Path.{_≡_, refl, sym, ap, _∙_}
-use mathlib.Core.Bool.{Bool, true, false, cond}
+use mathlib.Core.Bool.{Bool, true, false, cond, _&&_, _||_}
 use mathlib.Core.List.{List, [], _∷_, _++_, append-assoc, append-nil}
-use Prim.Native.Nat.{ℕ, zero, suc, _+_, _*_, _≤_}
+use Prim.Native.Nat.{ℕ, zero, suc, _+_, _*_, _≤_, _<_, min}
 use native.Mathlib.Nat.{add-zero}
 use native.Mathlib.Omega.{arith}
 use lib.Dec.{eqb}
-use lib.ListN.{length, take, length-append}
-use lib.Seq.{append-snoc, take-take, take-all}
+use lib.IntN.{ℤ, pos, negsuc}
+use lib.ListN.{length, take, drop, length-append, length-take}
+use lib.Seq.{append-snoc, take-take, take-all, take-append-seam}
 use Rattle.words.specs.Ends.{upTo}
 use Rattle.words.specs.Lines.{linesIn, lines}
-use Rattle.buffer.proofs.Growing.{grown-whole}
-use Rattle.answers.proofs.Feeding.{cue-alike, count-again, count-fixed, answers-counted, answers-append, goods-append, ended-append, left-append, Alike, alike}
+use Rattle.buffer.proofs.Growing.{grown-whole, grown-size, grown-bytes}
+use Rattle.buffer.specs.Buffer.{grown}
+use Rattle.endings.specs.Ending.{isGoing, isComplete, afterWrite}
+use Rattle.endings.specs.declared.Ending.{Ending}
+use Rattle.endings.specs.declared.Ending.the-variants.{Going, Complete, Unread, Unwritten}
+use Rattle.answers.proofs.Counting.{count-again, count-fixed, answers-counted, answers-append, goods-append}
+use Rattle.answers.proofs.Feeding.{cue-alike, ended-append, left-append, Alike, alike}
 use Rattle.answers.proofs.Fitting.{piece-fits, end-fits, heading-fits}
-use Rattle.buffer.specs.Buffer.{Grown}
+use Rattle.answers.proofs.Turning.{take-clamped}
 use Rattle.answers.specs.Text.{heading}
-use Rattle.answers.specs.Program.{counted, answersText, goods, totals, programText, ended, left, lastOf, endText, anew, Fed}
-use Rattle.answers.specs.Run.{Turn, Turns, lastState, lastHold, input, output, start, Run, RunWrites}
-use Rattle.answers.specs.declared.program.State.{State}
+use Rattle.answers.specs.Program.{counted, answersText, goods, totals, programText, ended, left, lastOf, endText, openText}
+use Rattle.answers.specs.Run.{Stage, stage, telling, keptIn, endedIn, fed, finished, silent, readBy, afterRead, wrote, told, begun, Event, reading, turned, ran, output, given, input, metEnd, allDone, Roomy, opened, RunWrites}
+use Rattle.answers.specs.declared.pieces.State.{State}
+use Rattle.answers.specs.declared.turns.Run.{Run}
 
 -- ---- the lines of an input are those that end and the last one
 
@@ -74,90 +81,354 @@ rest-all s =
     (rw (g, h, ← (lines-are s .0), answers-append 0 e f)
     (sym (append-assoc (answersText 0 e) (answersText (0 + length e) f) (totals (length (e ++ f)) (goods (e ++ f))))))
 
+-- the same without the unended line and the total
+open-more : (n : ℕ) (q s t : List ℕ) → answersText n (ended q (s ++ t)) ≡ answersText n (ended q s) ++ answersText (n + length (ended q s)) (ended (left q s) t)
+open-more n q s t = rw (ended-append q s t) (answers-append n (ended q s) (ended (left q s) t))
+
+-- whatever comes behind, the text of the whole begins with it
+front : (s t : List ℕ) → take (length (openText s)) (programText (s ++ t)) ≡ openText s
+unfolding openText
+front s t =
+    let a : List ℕ = answersText 0 (ended [] s) in
+    let b : List ℕ = rest (0 + length (ended [] s)) (0 + goods (ended [] s)) (left [] s) t in
+    let e : programText (s ++ t) ≡ (heading ++ a) ++ b =
+    sym (rest-all (s ++ t)) ∙ ap (λ (x : List ℕ). heading ++ x) (rest-more 0 0 [] s t) ∙ sym (append-assoc heading a b) in
+    rw e (take-append-seam (heading ++ a) b)
+
 -- ---- a state stands for the true counts and the true line
 
-pub record Stands (s : State) (h : List ℕ) (n k : ℕ) (q : List ℕ) : Type 0 where
-  pub lines : s .lines ≡ counted n
-  pub ok : s .ok ≡ counted k
-  pub held : take 65537 (take (s .held) h) ≡ take 65537 q
-  pub size : length h ≡ 65537
+record Stands (s : State) (h : List ℕ) (n k : ℕ) (q : List ℕ) : Type 0 where
+  lines : s .lines ≡ counted n
+  ok : s .ok ≡ counted k
+  held : take (length h) (take (s .held) h) ≡ take (length h) q
+  size : length h ≡ 65537
 
 totals-stand : (n n′ k k′ : ℕ) → counted n ≡ counted n′ → counted k ≡ counted k′ → totals n k ≡ totals n′ k′
 unfolding totals
 totals-stand n n′ k k′ e f = rw (e, f)
 
-last-alike : (q r : List ℕ) → take 65537 q ≡ take 65537 r → (n : ℕ)
-    → (answersText n (lastOf q) ≡ answersText n (lastOf r)) × ((length (lastOf q) ≡ length (lastOf r)) × (goods (lastOf q) ≡ goods (lastOf r)))
-unfolding lastOf answersText goods
-last-alike [] [] e n = (refl, (refl, refl))
-last-alike [] (c ∷ r) e n = absurd (omega (arith, ap length e))
-last-alike (c ∷ q) [] e n = absurd (omega (arith, ap length e))
-last-alike (c ∷ q) (d ∷ r) e n = let a = cue-alike (c ∷ q) (d ∷ r) e in (rw a, (refl, rw a))
+-- an empty list begins as no other does
+none : (m : ℕ) (l : List ℕ) → 0 < m → 0 < length l → take m [] ≡ take m l → ⊥
+none m l h k e = let f : length (take m []) ≡ length (take m l) = ap length e in omega (arith, rw (length-take m [], length-take m l) at f)
+
+module _ (m : ℕ) (big : 65536 < m) where
+  last-alike : (q r : List ℕ) → take m q ≡ take m r → (n : ℕ)
+      → (answersText n (lastOf q) ≡ answersText n (lastOf r)) × ((length (lastOf q) ≡ length (lastOf r)) × (goods (lastOf q) ≡ goods (lastOf r)))
+  unfolding lastOf answersText goods
+  last-alike [] [] e n = (refl, (refl, refl))
+  last-alike [] (c ∷ r) e n = absurd (none m (c ∷ r) (omega arith) (omega arith) e)
+  last-alike (c ∷ q) [] e n = absurd (none m (c ∷ q) (omega arith) (omega arith) (sym e))
+  last-alike (c ∷ q) (d ∷ r) e n = let a = cue-alike m big (c ∷ q) (d ∷ r) e in (rw a, (refl, rw a))
 
 end-stands : (s : State) (h : List ℕ) (n k : ℕ) (q : List ℕ) → Stands s h n k q → endText (s .lines) (s .ok) (take (s .held) h) ≡ endText n k q
 unfolding endText
 end-stands s h n k q w =
     let p : List ℕ = take (s .held) h in
-    let a = last-alike p q (w .held) n in
+    let a = last-alike (length h) (omega (arith, w .size)) p q (w .held) n in
     let b : answersText (s .lines) (lastOf p) ≡ answersText n (lastOf p) = answers-counted (s .lines) n (lastOf p) (sym (count-fixed n (s .lines) (w .lines)) ∙ w .lines) in
     let c : counted (s .lines + length (lastOf p)) ≡ counted (n + length (lastOf q)) = count-again n (length (lastOf p)) (s .lines) (w .lines) ∙ rw (a .1 .0) in
     let d : counted (s .ok + goods (lastOf p)) ≡ counted (k + goods (lastOf q)) = count-again k (goods (lastOf p)) (s .ok) (w .ok) ∙ rw (a .1 .1) in
     rw (b, a .0, totals-stand (s .lines + length (lastOf p)) (n + length (lastOf q)) (s .ok + goods (lastOf p)) (k + goods (lastOf q)) c d)
 
-module _ (s : State) (h : List ℕ) (n k : ℕ) (q : List ℕ) (w : Stands s h n k q) (t : Turn)
-    (f : Fed (anew s) h (t .before) (ended (take (s .held) h) (t .part)) (left (take (s .held) h) (t .part)) (t .state) (t .hold) (t .after)) where
-  abbrev e : List (List ℕ)
-  e = ended q (t .part)
+-- what is held behind a piece is what is left of it
+kept-left : (d p : List ℕ) (k : ℕ) (h : List ℕ)
+    → (take (keptIn k h p d .0) (keptIn k h p d .1) ≡ take (length h) (left (take k h ++ p) d)) × (length (keptIn k h p d .1) ≡ length h)
+unfolding keptIn left
+kept-left [] p k h = (grown-bytes h k (grown h k p .1) (grown h k p .0) p refl, grown-size h k (grown h k p .1) (grown h k p .0) p refl)
+kept-left (c ∷ cs) p k h = go (eqb c 10) (λ (f : List ℕ). kept-left cs [] 0 f) (kept-left cs (p ++ (c ∷ [])) k h)
+  where
+    first : (b : Bool) → length (cond b h (grown h k p .1)) ≡ length h
+    first true = refl
+    first false = grown-size h k (grown h k p .1) (grown h k p .0) p refl
 
-  same : Alike (take (s .held) h) q (t .part)
-  same = alike (take (s .held) h) q (t .part) (w .held)
+    go : (b : Bool)
+        → ((f : List ℕ) → (take (keptIn 0 f [] cs .0) (keptIn 0 f [] cs .1) ≡ take (length f) (left [] cs)) × (length (keptIn 0 f [] cs .1) ≡ length f))
+        → (take (keptIn k h (p ++ (c ∷ [])) cs .0) (keptIn k h (p ++ (c ∷ [])) cs .1) ≡ take (length h) (left (take k h ++ (p ++ (c ∷ []))) cs))
+        × (length (keptIn k h (p ++ (c ∷ [])) cs .1) ≡ length h)
+        → (take (cond b (keptIn 0 (cond (eqb k 0) h (grown h k p .1)) [] cs) (keptIn k h (p ++ (c ∷ [])) cs) .0)
+        (cond b (keptIn 0 (cond (eqb k 0) h (grown h k p .1)) [] cs) (keptIn k h (p ++ (c ∷ [])) cs) .1)
+        ≡ take (length h) (cond b (left [] cs) (left ((take k h ++ p) ++ (c ∷ [])) cs)))
+        × (length (cond b (keptIn 0 (cond (eqb k 0) h (grown h k p .1)) [] cs) (keptIn k h (p ++ (c ∷ [])) cs) .1) ≡ length h)
+    go true x y =
+        let z = x (cond (eqb k 0) h (grown h k p .1)) in
+        (z .0 ∙ ap (λ (j : ℕ). take j (left [] cs)) (first (eqb k 0)), z .1 ∙ first (eqb k 0))
+    go false x y = (y .0 ∙ ap (λ (l : List ℕ). take (length h) (left l cs)) (sym (append-assoc (take k h) p (c ∷ []))), y .1)
 
-  turn-stands : Stands (t .state) (t .hold) (n + length e) (k + goods e) (left q (t .part))
-  turn-stands =
-      let l = ended (take (s .held) h) (t .part) in
-      record {
-        lines = f .lines ∙ count-again n (length l) (s .lines) (w .lines) ∙ ap (λ (x : ℕ). counted (n + x)) (same .count);
-        ok = f .ok ∙ count-again k (goods l) (s .ok) (w .ok) ∙ ap (λ (x : ℕ). counted (k + x)) (same .goodness);
-        held =
-            ap (take 65537) (f .kept ∙ ap (λ (x : ℕ). take x (left (take (s .held) h) (t .part))) (w .size))
-            ∙ take-take 65537 65537 (left (take (s .held) h) (t .part)) (omega arith)
-            ∙ same .rest;
-        size = f .size ∙ w .size;
-      }
+module _ (s : State) (h : List ℕ) (n k : ℕ) (q : List ℕ) (w : Stands s h n k q) (o : List ℕ) where
+  abbrev p : List ℕ
+  p = take (s .held) h
 
-  turn-writes : 152 * length (t .part) ≤ length (t .before) → take (t .state .out) (t .after) ≡ answersText n e
-  turn-writes room =
-      grown-whole (t .before) (t .after) (t .state .out) (answersText (s .lines) (ended (take (s .held) h) (t .part))) (f .text)
-      (omega (arith, piece-fits (s .lines) (take (s .held) h) (t .part)))
-      ∙ same .text (s .lines)
-      ∙ answers-counted (s .lines) n e (sym (count-fixed n (s .lines) (w .lines)) ∙ w .lines)
+  module _ (part : List ℕ) where
+    same : Alike (length h) p q part
+    same = alike (length h) (omega (arith, w .size)) p q part (w .held)
 
--- the turns from a state on, and the end, write what is left of the program's text
-turns-write : (ts : List Turn) (s : State) (h : List ℕ) (n k : ℕ) (q : List ℕ) (o o′ : List ℕ) (r : ℕ) → Stands s h n k q → Turns s h ts → 280 ≤ length o
-    → Grown o 0 o′ r (endText (lastState s ts .lines) (lastState s ts .ok) (take (lastState s ts .held) (lastHold h ts)))
-    → output ts ++ take r o′ ≡ rest n k q (input ts)
-turns-write [] s h n k q o o′ r w c room g =
-    grown-whole o o′ r (endText (s .lines) (s .ok) (take (s .held) h)) g (omega (arith, end-fits (s .lines) (s .ok) (take (s .held) h)))
-    ∙ end-stands s h n k q w
-    ∙ sym (rest-none n k q)
-turns-write (t ∷ ts) s h n k q o o′ r w c room g =
-    let x : take (t .state .out) (t .after) ≡ answersText n (ended q (t .part)) = turn-writes s h n k q w t (c .1 .0) (c .0) in
-    let i =
-    turns-write ts (t .state) (t .hold) (n + length (ended q (t .part))) (k + goods (ended q (t .part))) (left q (t .part)) o o′ r
-    (turn-stands s h n k q w t (c .1 .0)) (c .1 .1) room g
-    in
-    append-assoc (take (t .state .out) (t .after)) (output ts) (take r o′)
-    ∙ rw (x, i) (sym (rest-more n k q (t .part) (input ts)))
+    fed-size : length (fed part s h o .out) ≡ length o
+    unfolding fed stage
+    fed-size = grown-size o 0 _ _ (answersText (s .lines) (endedIn s h part)) refl
 
-start-stands : (h : List ℕ) → length h ≡ 65537 → Stands start h 0 0 []
-unfolding counted
-start-stands h e = record { lines = refl; ok = refl; held = refl; size = e }
+    fed-stands : Stands (fed part s h o .run .state) (fed part s h o .hold) (n + length (ended q part)) (k + goods (ended q part)) (left q part)
+    unfolding fed stage endedIn
+    fed-stands =
+        let l = ended p part in
+        let c = kept-left part [] (min (s .held) (length h)) h in
+        let e : take (min (s .held) (length h)) h ++ [] ≡ p = append-nil (take (min (s .held) (length h)) h) ∙ take-clamped (s .held) h in
+        let b : take (keptIn (min (s .held) (length h)) h [] part .0) (keptIn (min (s .held) (length h)) h [] part .1) ≡ take (length h) (left p part) =
+        c .0 ∙ ap (λ (x : List ℕ). take (length h) (left x part)) e in
+        record {
+          lines = count-again n (length l) (s .lines) (w .lines) ∙ ap (λ (x : ℕ). counted (n + x)) (same .count);
+          ok = count-again k (goods l) (s .ok) (w .ok) ∙ ap (λ (x : ℕ). counted (k + x)) (same .goodness);
+          held = rw (c .1) (ap (take (length h)) b ∙ take-take (length h) (length h) (left p part) (omega arith) ∙ same .rest);
+          size = c .1 ∙ w .size;
+        }
 
--- however the input is cut into pieces, and though no more than 65,537 bytes of a line are held
+    fed-told : 36 * length part ≤ length o → told (fed part s h o) ≡ answersText n (ended q part)
+    unfolding told fed stage endedIn
+    fed-told room =
+        grown-whole o _ _ (answersText (s .lines) (ended p part)) refl (omega (arith, piece-fits (s .lines) p part))
+        ∙ same .text (s .lines)
+        ∙ answers-counted (s .lines) n (ended q part) (sym (count-fixed n (s .lines) (w .lines)) ∙ w .lines)
+
+  finished-told : 116 ≤ length o → told (finished s h o) ≡ endText n k q
+  unfolding told finished stage telling
+  finished-told room =
+      grown-whole o _ _ (endText (s .lines) (s .ok) p) refl (omega (arith, end-fits (s .lines) (s .ok) p)) ∙ end-stands s h n k q w
+
+-- ---- a run that has ended writes nothing more and reads nothing more
+
+after-ended : (done : Bool) (e : Ending) → isGoing e ≡ false → isGoing (afterWrite done e) ≡ false
+unfolding afterWrite isGoing
+after-ended true e h = h
+after-ended false e h = refl
+
+after-short : (done : Bool) (e : Ending) → isComplete e ≡ false → isComplete (afterWrite done e) ≡ false
+unfolding afterWrite isComplete
+after-short true e h = h
+after-short false e h = refl
+
+module _ (e : Event) (g : Stage) (h : isGoing (g .run .ending) ≡ false) where
+  ended-reading : reading e g ≡ silent (g .run .ending) (g .run .state) (g .hold) (g .out)
+  unfolding afterRead
+  ended-reading = rw h
+
+  ended-ending : reading e g .run .ending ≡ g .run .ending
+  unfolding silent stage
+  ended-ending = ap (λ (x : Stage). x .run .ending) ended-reading
+
+  ended-told : told (reading e g) ≡ []
+  unfolding told silent stage telling
+  ended-told = ap told ended-reading
+
+  turned-ended : isGoing (turned e g .run .ending) ≡ false
+  unfolding wrote
+  turned-ended = after-ended (e .done) (reading e g .run .ending) (rw ended-ending h)
+
+  turned-short : isComplete (g .run .ending) ≡ false → isComplete (turned e g .run .ending) ≡ false
+  unfolding wrote
+  turned-short s = after-short (e .done) (reading e g .run .ending) (rw ended-ending s)
+
+idle-output : (es : List Event) (g : Stage) → isGoing (g .run .ending) ≡ false → output es g ≡ []
+idle-output [] g h = refl
+idle-output (e ∷ es) g h = rw (ended-told e g h) (idle-output es (turned e g) (turned-ended e g h))
+
+idle-input : (es : List Event) (g : Stage) → isGoing (g .run .ending) ≡ false → input es g ≡ []
+idle-input [] g h = refl
+idle-input (e ∷ es) g h = rw h (idle-input es (turned e g) (turned-ended e g h))
+
+idle-end : (es : List Event) (g : Stage) → isGoing (g .run .ending) ≡ false → isComplete (g .run .ending) ≡ false → metEnd es g ≡ false
+idle-end [] g h s = refl
+idle-end (e ∷ es) g h s = rw (ended-ending e g h, s) (idle-end es (turned e g) (turned-ended e g h) (turned-short e g h s))
+
+-- ---- what the turns write from a state on
+
+abbrev going : State → List ℕ → List ℕ → Stage
+going s h o = record { run = record { state = s; ending = Going }; hold = h; out = o }
+
+abbrev Writes : List Event → State → List ℕ → List ℕ → ℕ → ℕ → List ℕ → Type 0
+Writes es s h o n k q =
+    output es (going s h o) ≡ cond (metEnd es (going s h o)) (rest n k q (input es (going s h o))) (answersText n (ended q (input es (going s h o))))
+
+roomy-end : (m : ℕ) (es : List Event) → Roomy m es → 116 ≤ m
+roomy-end m [] r = r
+roomy-end m (e ∷ es) r = roomy-end m es (r .1)
+
+cond-append : (b : Bool) (x y z : List ℕ) → x ++ cond b y z ≡ cond b (x ++ y) (x ++ z)
+cond-append true x y z = refl
+cond-append false x y z = refl
+
+cond-same : (b : Bool) (x x′ y y′ : List ℕ) → x ≡ x′ → y ≡ y′ → cond b x y ≡ cond b x′ y′
+cond-same true x x′ y y′ e f = e
+cond-same false x x′ y y′ e f = f
+
+module _ (es : List Event) (ih : (s : State) (h o : List ℕ) (n k : ℕ) (q : List ℕ) → Stands s h n k q → Roomy (length o) es → Writes es s h o n k q)
+    (s : State) (h o : List ℕ) (n k : ℕ) (q : List ℕ) (w : Stands s h n k q) (piece : List ℕ) (room : 36 * length piece ≤ length o) (more : Roomy (length o) es) where
+  -- a failed read
+  step-failed : (j : ℕ) (d : Bool) → Writes (record { piece = piece; got = negsuc j; done = d } ∷ es) s h o n k q
+  unfolding afterRead readBy silent stage told telling wrote isGoing isComplete ended answersText
+  step-failed j d =
+      let g : Stage = record { run = record { state = record { lines = s .lines; ok = s .ok; held = s .held; out = 0 }; ending = afterWrite d Unread }; hold = h; out = o } in
+      let f : isGoing (afterWrite d Unread) ≡ false = after-ended d Unread refl in
+      rw (idle-output es g f, idle-input es g f, idle-end es g f (after-short d Unread refl))
+
+  -- the input's end
+  step-end : (d : Bool) → Writes (record { piece = piece; got = pos 0; done = d } ∷ es) s h o n k q
+  unfolding afterRead readBy finished stage wrote isGoing isComplete
+  step-end d =
+      let g : Stage = turned (record { piece = piece; got = pos 0; done = d }) (going s h o) in
+      let f : isGoing (g .run .ending) ≡ false = after-ended d Complete refl in
+      let t : told (finished s h o) ≡ endText n k q = finished-told s h n k q w o (roomy-end (length o) es more) in
+      rw (idle-output es g f, idle-input es g f) (append-nil (told (finished s h o)) ∙ t ∙ sym (rest-none n k q))
+
+  module _ (j : ℕ) where
+    abbrev part : List ℕ
+    part = take (suc j) piece
+
+    part-told : told (fed part s h o) ≡ answersText n (ended q part)
+    part-told =
+        let l : length part ≤ length piece = rw length-take (omega arith) in
+        fed-told s h n k q w o part (omega arith)
+
+    -- a piece whose answers were written
+    step-piece : Writes (record { piece = piece; got = pos (suc j); done = true } ∷ es) s h o n k q
+    unfolding afterRead readBy fed stage wrote afterWrite isGoing isComplete
+    step-piece =
+        let f : Stage = fed part s h o in
+        let g : Stage = going (f .run .state) (f .hold) (f .out) in
+        let a : List ℕ = answersText n (ended q part) in
+        let n2 : ℕ = n + length (ended q part) in
+        let k2 : ℕ = k + goods (ended q part) in
+        let q2 : List ℕ = left q part in
+        let m : Roomy (length (f .out)) es = rw (fed-size s h n k q w o part) more in
+        let i : Writes es (f .run .state) (f .hold) (f .out) n2 k2 q2 = ih (f .run .state) (f .hold) (f .out) n2 k2 q2 (fed-stands s h n k q w o part) m in
+        let x : List ℕ = input es g in
+        ap (λ (l : List ℕ). l ++ output es g) part-told
+        ∙ ap (λ (l : List ℕ). a ++ l) i
+        ∙ cond-append (metEnd es g) a (rest n2 k2 q2 x) (answersText n2 (ended q2 x))
+        ∙ sym (cond-same (metEnd es g) _ _ _ _ (rest-more n k q part x) (open-more n q part x))
+
+    -- a piece whose answers could not be written
+    step-unwritten : Writes (record { piece = piece; got = pos (suc j); done = false } ∷ es) s h o n k q
+    unfolding afterRead readBy fed stage wrote afterWrite isGoing isComplete
+    step-unwritten =
+        let g : Stage = turned (record { piece = piece; got = pos (suc j); done = false }) (going s h o) in
+        rw (idle-output es g refl, idle-input es g refl, idle-end es g refl refl, append-nil part) (append-nil (told (fed part s h o)) ∙ part-told)
+
+turns-write : (es : List Event) (s : State) (h o : List ℕ) (n k : ℕ) (q : List ℕ) → Stands s h n k q → Roomy (length o) es → Writes es s h o n k q
+unfolding ended answersText
+turns-write [] s h o n k q w r = refl
+turns-write (e ∷ es) s h o n k q w r =
+    step (λ (s′ : State) (h′ o′ : List ℕ) (n′ k′ : ℕ) (q′ : List ℕ) (w′ : Stands s′ h′ n′ k′ q′) (r′ : Roomy (length o′) es). turns-write es s′ h′ o′ n′ k′ q′ w′ r′)
+    (e .got) (e .done)
+  where
+    step : ((s′ : State) (h′ o′ : List ℕ) (n′ k′ : ℕ) (q′ : List ℕ) → Stands s′ h′ n′ k′ q′ → Roomy (length o′) es → Writes es s′ h′ o′ n′ k′ q′)
+        → (z : ℤ) (d : Bool) → Writes (record { piece = e .piece; got = z; done = d } ∷ es) s h o n k q
+    step ih (negsuc j) d = step-failed es ih s h o n k q w (e .piece) (r .0) (r .1) j d
+    step ih (pos zero) d = step-end es ih s h o n k q w (e .piece) (r .0) (r .1) d
+    step ih (pos (suc j)) true = step-piece es ih s h o n k q w (e .piece) (r .0) (r .1) j
+    step ih (pos (suc j)) false = step-unwritten es ih s h o n k q w (e .piece) (r .0) (r .1) j
+
+-- ---- when a run is complete
+
+unwritten-over : isGoing Unwritten ≡ false
+unfolding isGoing
+unwritten-over = refl
+
+unwritten-short : isComplete Unwritten ≡ false
+unfolding isComplete
+unwritten-short = refl
+
+complete-over : isGoing Complete ≡ false
+unfolding isGoing
+complete-over = refl
+
+turned-is : (e : Event) (g : Stage) → isGoing (g .run .ending) ≡ false → (d : Bool) → e .done ≡ d → turned e g .run .ending ≡ cond d (g .run .ending) Unwritten
+unfolding wrote afterWrite
+turned-is e g h d f = rw (f, ended-ending e g h)
+
+short-stays : (es : List Event) (g : Stage) → isGoing (g .run .ending) ≡ false → isComplete (g .run .ending) ≡ false → isComplete (ran es g .run .ending) ≡ false
+short-stays [] g h s = s
+short-stays (e ∷ es) g h s = short-stays es (turned e g) (turned-ended e g h) (turned-short e g h s)
+
+complete-stays : (es : List Event) (g : Stage) → g .run .ending ≡ Complete → isComplete (ran es g .run .ending) ≡ allDone es
+unfolding isComplete
+complete-stays [] g c = rw c
+complete-stays (e ∷ es) g c = go (e .done) refl (λ (f : turned e g .run .ending ≡ Complete). complete-stays es (turned e g) f)
+  where
+    over : isGoing (g .run .ending) ≡ false
+    over = rw c (complete-over)
+
+    go : (d : Bool) → e .done ≡ d → (turned e g .run .ending ≡ Complete → isComplete (ran es (turned e g) .run .ending) ≡ allDone es)
+        → isComplete (ran es (turned e g) .run .ending) ≡ (d && allDone es)
+    go true f ih = ih (turned-is e g over true f ∙ c)
+    go false f ih = let t = turned-is e g over false f in short-stays es (turned e g) (rw t unwritten-over) (rw t unwritten-short)
+
+module _ (es : List Event) (piece : List ℕ) (s : State) (h o : List ℕ)
+    (ih : (s′ : State) (h′ o′ : List ℕ) → isComplete (ran es (going s′ h′ o′) .run .ending) ≡ (metEnd es (going s′ h′ o′) && allDone es)) where
+  turn-complete : (z : ℤ) (d : Bool)
+      → isComplete (ran (record { piece = piece; got = z; done = d } ∷ es) (going s h o) .run .ending)
+      ≡ (metEnd (record { piece = piece; got = z; done = d } ∷ es) (going s h o) && (d && allDone es))
+  unfolding afterRead readBy fed finished silent stage wrote afterWrite isGoing isComplete
+  turn-complete (negsuc j) true =
+      let g : Stage = turned (record { piece = piece; got = negsuc j; done = true }) (going s h o) in
+      rw (idle-end es g refl refl) (short-stays es g refl refl)
+  turn-complete (negsuc j) false =
+      let g : Stage = turned (record { piece = piece; got = negsuc j; done = false }) (going s h o) in
+      rw (idle-end es g refl refl) (short-stays es g refl refl)
+  turn-complete (pos zero) true = complete-stays es (turned (record { piece = piece; got = pos 0; done = true }) (going s h o)) refl
+  turn-complete (pos zero) false = short-stays es (turned (record { piece = piece; got = pos 0; done = false }) (going s h o)) refl refl
+  turn-complete (pos (suc j)) true = let f : Stage = fed (take (suc j) piece) s h o in ih (f .run .state) (f .hold) (f .out)
+  turn-complete (pos (suc j)) false =
+      let g : Stage = turned (record { piece = piece; got = pos (suc j); done = false }) (going s h o) in
+      rw (idle-end es g refl refl) (short-stays es g refl refl)
+
+going-complete : (es : List Event) (s : State) (h o : List ℕ) → isComplete (ran es (going s h o) .run .ending) ≡ (metEnd es (going s h o) && allDone es)
+unfolding isComplete
+going-complete [] s h o = refl
+going-complete (e ∷ es) s h o = step (λ (s′ : State) (h′ o′ : List ℕ). going-complete es s′ h′ o′) (e .got) (e .done)
+  where
+    step : ((s′ : State) (h′ o′ : List ℕ) → isComplete (ran es (going s′ h′ o′) .run .ending) ≡ (metEnd es (going s′ h′ o′) && allDone es))
+        → (z : ℤ) (d : Bool)
+        → isComplete (ran (record { piece = e .piece; got = z; done = d } ∷ es) (going s h o) .run .ending)
+        ≡ (metEnd (record { piece = e .piece; got = z; done = d } ∷ es) (going s h o) && (d && allDone es))
+    step ih z d = turn-complete es (e .piece) s h o ih z d
+
+-- ---- a whole run
+
+abbrev start : List ℕ → State
+start o = begun o .0 .state
+
+begun-told : (o : List ℕ) → 116 ≤ length o → take (begun o .0 .state .out) (begun o .1) ≡ heading
+unfolding begun
+begun-told o r = grown-whole o _ _ heading refl (omega (arith, heading-fits))
+
+begun-size : (o : List ℕ) → length (begun o .1) ≡ length o
+unfolding begun
+begun-size o = grown-size o 0 _ _ heading refl
+
+begun-stands : (h o : List ℕ) → length h ≡ 65537 → Stands (start o) h 0 0 []
+unfolding begun counted
+begun-stands h o e = record { lines = refl; ok = refl; held = refl; size = e }
+
+module _ (h o : List ℕ) (es : List Event) where
+  run-text : (done : Bool) → length h ≡ 65537 → Roomy (length o) es
+      → take (begun o .0 .state .out) (begun o .1) ++ output es (opened done h o)
+      ≡ cond (metEnd es (opened done h o)) (programText (input es (opened done h o))) (openText (input es (opened done h o)))
+  unfolding wrote afterWrite begun openText isGoing isComplete ended answersText
+  run-text true l r =
+      let g : Stage = opened true h o in
+      let i : Writes es (start o) h (begun o .1) 0 0 [] = turns-write es (start o) h (begun o .1) 0 0 [] (begun-stands h o l) (rw (begun-size o) r) in
+      ap (λ (x : List ℕ). x ++ output es g) (begun-told o (roomy-end (length o) es r))
+      ∙ ap (λ (x : List ℕ). heading ++ x) i
+      ∙ cond-append (metEnd es g) heading (rest 0 0 [] (input es g)) (answersText 0 (ended [] (input es g)))
+      ∙ cond-same (metEnd es g) _ _ _ _ (rest-all (input es g)) refl
+  run-text false l r =
+      let g : Stage = opened false h o in
+      rw (idle-output es g refl, idle-input es g refl, idle-end es g refl refl)
+      (ap (λ (x : List ℕ). x ++ []) (begun-told o (roomy-end (length o) es r)))
+
+  run-complete : (done : Bool) → isComplete (ran es (opened done h o) .run .ending) ≡ (metEnd es (opened done h o) && (done && allDone es))
+  unfolding wrote afterWrite begun isGoing isComplete
+  run-complete true = going-complete es (start o) h (begun o .1)
+  run-complete false = let g : Stage = opened false h o in rw (idle-end es g refl refl) (short-stays es g refl refl)
+
 pub run-writes : RunWrites
-run-writes h ts b b′ m o o′ n r =
-    rw (
-      grown-whole b b′ m heading (r .begun) (omega (arith, heading-fits, r .room)),
-      turns-write ts start h 0 0 [] o o′ n (start-stands h (r .holds)) (r .turned) (r .last-room) (r .finished),
-    )
-    (rest-all (input ts))
+run-writes = record { text = λ h o done es l r. run-text h o es done l r; complete = λ h o done es. run-complete h o es done; front = front }

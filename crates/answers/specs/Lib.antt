@@ -1,5 +1,5 @@
 pub mod Text
 pub mod Program
-pub mod Inner
 pub mod Run
+pub mod Inner
 pub mod Examples

@@ -1,17 +1,14 @@
 -- The program: 01, "Cue lines and labels". It reads cue lines for 64 by 128, in pieces as they come. Assumes nothing.
 use Prim.Native.Nat.{ℕ, _+_, _-_, min}
-use mathlib.Core.Path.{_≡_}
 use mathlib.Core.Bool.{cond}
 use mathlib.Core.List.{List, [], _∷_, _++_}
 use lib.Dec.{eqb}
-use lib.ListN.{length, take}
+use lib.ListN.{length}
 use Rattle.strlib.specs.Refusal.{Outcome, refused, gives}
 use Rattle.words.specs.Lines.{lines}
 use Rattle.desk.specs.Cue.{cueRule}
 use Rattle.desk.specs.declared.cue.Cue.{Cue}
-use Rattle.buffer.specs.Buffer.{Grown}
 use Rattle.answers.specs.Text.{heading, answerText, totalText}
-use Rattle.answers.specs.declared.program.State.{State}
 
 -- what a counter shows: it stays at 2^64 − 1, which no input has lines enough to reach
 unfoldable pub counted : ℕ → ℕ
@@ -60,14 +57,6 @@ lastOf (c ∷ cs) = (c ∷ cs) ∷ []
 unfoldable pub endText : ℕ → ℕ → List ℕ → List ℕ
 endText n k q = answersText n (lastOf q) ++ totals (n + length (lastOf q)) (k + goods (lastOf q))
 
--- a state with its buffer of answers empty
-abbrev pub anew : State → State
-anew s = record { lines = s .lines; ok = s .ok; held = s .held; out = 0 }
-
--- from a state s, with the bytes h held and the buffer o, the lines e were answered, and q is held, cut where there is no room
-pub record Fed (s : State) (h o : List ℕ) (e : List (List ℕ)) (q : List ℕ) (r : State) (h′ o′ : List ℕ) : Type 0 where
-  pub text : Grown o (s .out) o′ (r .out) (answersText (s .lines) e)
-  pub lines : r .lines ≡ counted (s .lines + length e)
-  pub ok : r .ok ≡ counted (s .ok + goods e)
-  pub kept : take (r .held) h′ ≡ take (length h) q
-  pub size : length h′ ≡ length h
+-- what the program has written of an input whose end it has not met: an answer to each line that ended, and no total
+unfoldable pub openText : List ℕ → List ℕ
+openText input = heading ++ answersText 0 (ended [] input)

@@ -1,60 +1,151 @@
--- A run of the program over an input that came in pieces, as its calls promise it, and what the run writes. Assumes nothing.
-use Prim.Native.Nat.{ℕ, _*_, _≤_}
+-- A run of the program: what its calls promise, turn by turn, and what the run writes. A turn is a read and a write. Assumes nothing.
+use Prim.Native.Nat.{ℕ, zero, suc, _+_, _*_, _≤_, min}
 use mathlib.Core.Path.{_≡_}
+use mathlib.Core.Bool.{Bool, true, false, cond, _&&_, _||_}
 use mathlib.Core.List.{List, [], _∷_, _++_}
+use lib.Dec.{eqb}
+use lib.IntN.{ℤ, pos, negsuc}
 use lib.ListN.{length, take}
-use Rattle.buffer.specs.Buffer.{Grown}
+use Rattle.buffer.specs.Buffer.{grown}
+use Rattle.endings.specs.Ending.{isGoing, isComplete, afterWrite}
+use Rattle.endings.specs.declared.Ending.{Ending}
+use Rattle.endings.specs.declared.Ending.the-variants.{Going, Complete, Unread}
 use Rattle.answers.specs.Text.{heading}
-use Rattle.answers.specs.Program.{ended, left, endText, anew, Fed, programText}
-use Rattle.answers.specs.declared.program.State.{State}
+use Rattle.answers.specs.Program.{counted, goods, answersText, endText, ended, programText, openText}
+use Rattle.answers.specs.declared.pieces.State.{State}
+use Rattle.answers.specs.declared.turns.Run.{Run}
 
--- one call of `feed`: the piece, the buffer of answers before, and what there was afterwards
-pub record Turn : Type 0 where
-  pub part : List ℕ
-  pub before : List ℕ
-  pub state : State
+-- where a run stands: the run itself, and what was lent to it: the bytes of a line that has no end yet, and the buffer of answers
+pub record Stage : Type 0 where
+  pub run : Run
   pub hold : List ℕ
-  pub after : List ℕ
+  pub out : List ℕ
 
--- the turns follow on one another, each as `feed` promises, with 152 bytes of room for each byte of its piece
-abbrev pub Turns : State → List ℕ → List Turn → Type 0
-Turns s h [] = Unit
-Turns s h (t ∷ ts) =
-    (152 * length (t .part) ≤ length (t .before))
-    × (Fed (anew s) h (t .before) (ended (take (s .held) h) (t .part)) (left (take (s .held) h) (t .part)) (t .state) (t .hold) (t .after)
-    × Turns (t .state) (t .hold) ts)
+unfoldable pub stage : Run → List ℕ → List ℕ → Stage
+stage r h o = record { run = r; hold = h; out = o }
 
-abbrev pub lastState : State → List Turn → State
-lastState s [] = s
-lastState s (t ∷ ts) = lastState (t .state) ts
+-- a state that has n bytes of answers to write
+unfoldable pub telling : State → ℕ → State
+telling s n = record { lines = s .lines; ok = s .ok; held = s .held; out = n }
 
-abbrev pub lastHold : List ℕ → List Turn → List ℕ
-lastHold h [] = h
-lastHold h (t ∷ ts) = lastHold (t .hold) ts
+-- ---- a read
 
--- the input whole, and what the turns write
-abbrev pub input : List Turn → List ℕ
-input [] = []
-input (t ∷ ts) = t .part ++ input ts
+-- what is held of an unended line behind a piece, where k bytes of h were held and p came since: how many bytes, and the bytes lent for
+-- it. The end of a line that was begun earlier is put behind its beginning; a line that is whole in the piece is not held.
+unfoldable pub keptIn : ℕ → List ℕ → List ℕ → List ℕ → ℕ × List ℕ
+keptIn k h p [] = grown h k p
+keptIn k h p (c ∷ cs) = cond (eqb c 10) (keptIn 0 (cond (eqb k 0) h (grown h k p .1)) [] cs) (keptIn k h (p ++ (c ∷ [])) cs)
 
-abbrev pub output : List Turn → List ℕ
-output [] = []
-output (t ∷ ts) = take (t .state .out) (t .after) ++ output ts
+-- the lines that end in a piece
+unfoldable pub endedIn : State → List ℕ → List ℕ → List (List ℕ)
+endedIn s h part = ended (take (s .held) h) part
 
-abbrev pub start : State
-start = record { lines = 0; ok = 0; held = 0; out = 0 }
+-- a piece of the input: the lines that end in it are answered, and what is left of it is held
+unfoldable pub fed : List ℕ → State → List ℕ → List ℕ → Stage
+fed part s h o =
+    stage
+    (record {
+      state = record {
+        lines = counted (s .lines + length (endedIn s h part));
+        ok = counted (s .ok + goods (endedIn s h part));
+        held = keptIn (min (s .held) (length h)) h [] part .0;
+        out = grown o 0 (answersText (s .lines) (endedIn s h part)) .0;
+      };
+      ending = Going;
+    })
+    (keptIn (min (s .held) (length h)) h [] part .1)
+    (grown o 0 (answersText (s .lines) (endedIn s h part)) .1)
 
--- a whole run: `begin`, the turns, and `finish` with 280 bytes of room
-pub record Run (h : List ℕ) (ts : List Turn) (b b′ : List ℕ) (m : ℕ) (o o′ : List ℕ) (n : ℕ) : Type 0 where
-  pub holds : length h ≡ 65537
-  pub room : 280 ≤ length b
-  pub begun : Grown b 0 b′ m heading
-  pub turned : Turns start h ts
-  pub last-room : 280 ≤ length o
-  pub finished : Grown o 0 o′ n (endText (lastState start ts .lines) (lastState start ts .ok) (take (lastState start ts .held) (lastHold h ts)))
+-- the input's end: a last line without an end is answered, and the total given
+unfoldable pub finished : State → List ℕ → List ℕ → Stage
+finished s h o =
+    stage (record { state = telling s (grown o 0 (endText (s .lines) (s .ok) (take (s .held) h)) .0); ending = Complete }) h
+    (grown o 0 (endText (s .lines) (s .ok) (take (s .held) h)) .1)
 
--- it writes the program's text of the input whole, however that was cut into pieces
-abbrev pub RunWrites : Type 0
-RunWrites =
-    (h : List ℕ) (ts : List Turn) (b b′ : List ℕ) (m : ℕ) (o o′ : List ℕ) (n : ℕ) → Run h ts b b′ m o o′ n
-    → take m b′ ++ (output ts ++ take n o′) ≡ programText (input ts)
+-- nothing is written
+unfoldable pub silent : Ending → State → List ℕ → List ℕ → Stage
+silent e s h o = stage (record { state = telling s 0; ending = e }) h o
+
+-- after a read: a negative answer is a failed read, 0 is the input's end, any other the number of bytes of the piece
+unfoldable pub readBy : ℤ → List ℕ → State → List ℕ → List ℕ → Stage
+readBy (negsuc k) piece s h o = silent Unread s h o
+readBy (pos zero) piece s h o = finished s h o
+readBy (pos (suc k)) piece s h o = fed (take (suc k) piece) s h o
+
+-- a run that has ended reads no more
+unfoldable pub afterRead : ℤ → List ℕ → Run → List ℕ → List ℕ → Stage
+afterRead got piece r h o = cond (isGoing (r .ending)) (readBy got piece (r .state) h o) (silent (r .ending) (r .state) h o)
+
+-- ---- a write
+
+-- a write that failed ends the run, whatever it was before
+unfoldable pub wrote : Bool → Run → Run
+wrote done r = record { state = r .state; ending = afterWrite done (r .ending) }
+
+-- what a run is told to write
+unfoldable pub told : Stage → List ℕ
+told g = take (g .run .state .out) (g .out)
+
+-- ---- a run
+
+-- it begins with its heading
+unfoldable pub begun : List ℕ → Run × List ℕ
+begun o = (record { state = record { lines = 0; ok = 0; held = 0; out = grown o 0 heading .0 }; ending = Going }, grown o 0 heading .1)
+
+-- a turn, as seen from outside: what the bytes lent to the read were afterwards, what it answered, and whether all was written
+pub record Event : Type 0 where
+  pub piece : List ℕ
+  pub got : ℤ
+  pub done : Bool
+
+abbrev pub reading : Event → Stage → Stage
+reading e g = afterRead (e .got) (e .piece) (g .run) (g .hold) (g .out)
+
+abbrev pub turned : Event → Stage → Stage
+turned e g = record { run = wrote (e .done) (reading e g .run); hold = reading e g .hold; out = reading e g .out }
+
+abbrev pub ran : List Event → Stage → Stage
+ran [] g = g
+ran (e ∷ es) g = ran es (turned e g)
+
+-- what it was told to write in these turns, and what it had read
+abbrev pub output : List Event → Stage → List ℕ
+output [] g = []
+output (e ∷ es) g = told (reading e g) ++ output es (turned e g)
+
+abbrev pub given : ℤ → List ℕ → List ℕ
+given (pos k) piece = take k piece
+given (negsuc k) piece = []
+
+abbrev pub input : List Event → Stage → List ℕ
+input [] g = []
+input (e ∷ es) g = cond (isGoing (g .run .ending)) (given (e .got) (e .piece)) [] ++ input es (turned e g)
+
+-- whether it met the input's end, and whether every write took all its bytes
+abbrev pub metEnd : List Event → Stage → Bool
+metEnd [] g = false
+metEnd (e ∷ es) g = isComplete (reading e g .run .ending) || metEnd es (turned e g)
+
+abbrev pub allDone : List Event → Bool
+allDone [] = true
+allDone (e ∷ es) = e .done && allDone es
+
+-- room for the answers to each piece, and for the end
+abbrev pub Roomy : ℕ → List Event → Type 0
+Roomy n [] = 116 ≤ n
+Roomy n (e ∷ es) = (36 * length (e .piece) ≤ n) × Roomy n es
+
+-- a whole run, the heading's write included, from what was lent
+abbrev pub opened : Bool → List ℕ → List ℕ → Stage
+opened done h o = record { run = wrote done (begun o .0); hold = h; out = begun o .1 }
+
+-- However the input is cut into pieces, and however the run ends: what it is told to write is the program's text of what it read, whole if it
+-- met the input's end, else without the unended line's answer and the total. It is complete exactly if it met the end and every write took all.
+pub record RunWrites : Type 0 where
+  pub text : (h o : List ℕ) (done : Bool) (es : List Event) → length h ≡ 65537 → Roomy (length o) es
+      → take (begun o .0 .state .out) (begun o .1) ++ output es (opened done h o)
+      ≡ cond (metEnd es (opened done h o)) (programText (input es (opened done h o))) (openText (input es (opened done h o)))
+  pub complete : (h o : List ℕ) (done : Bool) (es : List Event)
+      → isComplete (ran es (opened done h o) .run .ending) ≡ (metEnd es (opened done h o) && (done && allDone es))
+  -- whatever comes behind what was read, the text of the whole begins with what was written
+  pub front : (read more : List ℕ) → take (length (openText read)) (programText (read ++ more)) ≡ openText read

@@ -1,7 +1,10 @@
 // The answers to cue lines that come in pieces: the program without its reading and writing.
-mod program;
+mod pieces;
+mod texts;
+mod turns;
 
-pub use program::State;
-pub use program::begin;
-pub use program::feed;
-pub use program::finish;
+pub use pieces::State;
+pub use turns::Run;
+pub use turns::after_read;
+pub use turns::after_write;
+pub use turns::begin;

@@ -4,10 +4,12 @@ use mathlib.Core.Path.{_≡_, refl, sym, ap, _∙_}
 use mathlib.Core.Bool.{Bool, true, _&&_, false≢true}
 use mathlib.Core.List.{List}
 use Prim.Native.Nat.{ℕ, _≤_, _<_}
-use borrow.Author.Tests.{leb-true, lt-leb}
+use native.Mathlib.Omega.{arith}
+use borrow.Author.Tests.{leb-true, le-leb, lt-leb}
 use lib.Dec.{leb}
 use lib.IntN.{ℤ, pos, negsuc, natAbs}
 use lib.ListN.{length}
+use Rattle.number.specs.Limits.{inRange}
 use Rattle.number.specs.Text.{numberOf}
 use Rattle.strlib.proofs.Refusing.{and-both, passed, outcome-gave, outcome-is, first-under}
 use Rattle.strlib.specs.Pointer.{storeFits}
@@ -29,6 +31,17 @@ cue-given line mics lsps c e =
     let g = outcome-gave (cueRefusal line mics lsps) (cueOf n m (numberOf 10 (gainWord line))) c e in
     let ok = passed (cueChecks line mics lsps) refl (g .0) .1 .1 .1 .1 .1 .1 .1 .1 .1 .1 .1 .1 in
     rw (← (g .1)) (index-in mics n (ok .0), (index-in lsps m (ok .1 .0), ok .1 .1 .0))
+
+-- a gain is within the range of numbers, and 960 at most whatever its sign
+pub gain-in-range : (z : ℤ) → isGain z ≡ true → inRange z ≡ true
+unfolding isGain inRange
+gain-in-range (pos n) e = let k = leb-true n 120 e in le-leb n 34359738367 (omega arith)
+gain-in-range (negsuc n) e = let k = leb-true n 959 (and-both (leb n 959) true e .0) in rw (le-leb n 34359738367 (omega arith))
+
+pub gain-small : (z : ℤ) → isGain z ≡ true → natAbs z ≤ 960
+unfolding isGain
+gain-small (pos n) e = omega (arith, leb-true n 120 e)
+gain-small (negsuc n) e = omega (arith, leb-true n 959 (and-both (leb n 959) true e .0))
 
 -- a refusal's number is at most 12
 pub cue-refused : (line : List ℕ) (mics lsps k : ℕ) → cueRule line mics lsps ≡ refused k → k ≤ 12

@@ -18,6 +18,14 @@ isGoing Unopened = false
 isGoing Unread = false
 isGoing Unwritten = false
 
+unfoldable pub isComplete : Ending → Bool
+isComplete Going = false
+isComplete Complete = true
+isComplete Misused = false
+isComplete Unopened = false
+isComplete Unread = false
+isComplete Unwritten = false
+
 -- after a write: a failed one ends the run, whatever it was before
 unfoldable pub afterWrite : Bool → Ending → Ending
 afterWrite done e = cond done e Unwritten

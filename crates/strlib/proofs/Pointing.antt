@@ -12,7 +12,7 @@ use lib.Seq.{drop-cons, take-all, take-nil}
 use borrow.Author.Needs.{needs}
 use borrow.Author.Tests.{leb-true, leb-false, le-leb, lt-leb}
 use Rattle.strlib.proofs.Refusing.{and-both}
-use Rattle.strlib.specs.Pointer.{storeFits, goodIn, sized, partOf, textOf, all, characters, apart}
+use Rattle.strlib.specs.Pointer.{pointer, storeFits, goodIn, sized, partOf, textOf, all, characters, apart}
 use Rattle.strlib.specs.declared.StrPtr.{StrPtr}
 
 -- two tests that hold together are equal
@@ -60,6 +60,11 @@ good-part n p skip l m e h k = is-good n (partOf p skip l m) h (omega (arith, go
 pub text-length : (s : List ℕ) (p : StrPtr) → goodIn (length s) p ≡ true → length (textOf s p) ≡ p .length
 unfolding textOf
 text-length s p e = simp (length-take, length-drop) (omega (arith, good-is (length s) p e))
+
+-- a string at the store's front
+pub text-front : (s : List ℕ) (n m : ℕ) → textOf s (pointer 0 n m) ≡ take n s
+unfolding textOf pointer
+text-front s n m = refl
 
 module _ (n : ℕ) (p : StrPtr) where
   pub good-short : p .maximum < p .length → false ≡ goodIn n p

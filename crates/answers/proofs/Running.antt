@@ -400,7 +400,7 @@ begun-told : (o : List ℕ) → 116 ≤ length o → take (begun o .0 .state .ou
 unfolding begun
 begun-told o r = grown-whole o _ _ heading refl (omega (arith, heading-fits))
 
-begun-size : (o : List ℕ) → length (begun o .1) ≡ length o
+pub begun-size : (o : List ℕ) → length (begun o .1) ≡ length o
 unfolding begun
 begun-size o = grown-size o 0 _ _ heading refl
 

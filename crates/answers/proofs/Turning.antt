@@ -77,7 +77,6 @@ pub ruleset end-laws = (needs, end-none, end-last)
 
 -- ---- a run
 
-
 pub begin-is : (o o′ : List ℕ) (n : ℕ) → (n, o′) ≡ grown o 0 heading
     → _≡_ {A = Run × List ℕ} (record { state = record { lines = 0; ok = 0; held = 0; out = n }; ending = Going }, o′) (begun o)
 unfolding begun

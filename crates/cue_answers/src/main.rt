@@ -1,41 +1,92 @@
-// Reads cue lines for a matrix of 64 by 128 from standard input and writes an answer to each, and the total.
-use answers::State;
+// Reads cue lines for a matrix of 64 by 128 from a file or from standard input, and writes an answer to each, and the total.
+use answers::Run;
+use endings::Ending;
+use endings::Source;
+use strlib::StrPtr;
+ghost use lib.ListN.{length};
+ghost use Prim.Native.Nat.{_≤_, _*_};
+ghost use Rattle.cue_answers.specs.Loop.{Room, Told, Turned, Ran, Answered};
 
-// Answers a piece of the input. The buffer `out` has 152 bytes for each byte of it, so that no answer is cut off.
-fn turn(part: &[u8], hold: &mut [u8; 65537], out: &mut [u8], s: State) -> State {
-    let t = answers::feed(part, hold, out, s);
-    io::write_all(1, buffer::front(out, t.out));
-    t
+// Bytes that are read at a time, and room for the answers to them: 36 bytes for each.
+const PIECE: usize = 2048;
+
+const OUT: usize = 36 * PIECE;
+
+// Writes what a run is told to write.
+fn tell(out: &[u8], run: Run) -> Run
+    ensures { λ r. ⌜ Told run r ⌝ }
+{
+    let state = run.state;
+    let done = desk_io::write(1, strlib::text(out, StrPtr::full(0, state.out)));
+    answers::after_write(done, run)
 }
 
-// Answers piece after piece, to the end of the input. The turns count down from a number that no input uses up.
-fn all_turns(piece: &mut [u8], hold: &mut [u8; 65537], out: &mut [u8]) -> State {
-    let mut s = State {
-        lines: 0,
-        ok: 0,
-        held: 0,
-        out: 0,
-    };
+// Reads once, and writes the answers.
+fn turn(fd: i32, piece: &mut [u8], hold: &mut [u8; 65537], out: &mut [u8], run: Run) -> Run
+    requires { ⌜ Room (now piece) (now out) ⌝ }
+    ensures { λ r. ⌜ Turned run (now (hold .entry)) (now (out .entry)) r (now (hold .exit)) (now (out .exit)) ⌝ }
+{
+    let got = desk_io::read(fd, piece);
+    let t = answers::after_read(got, piece, hold, out, run);
+    tell(out, t)
+}
+
+// Turn after turn, until the run has ended. The turns count down from a number that no input uses up.
+fn all_turns(fd: i32, piece: &mut [u8], hold: &mut [u8; 65537], out: &mut [u8], run: Run) -> Run
+    requires { ⌜ Room (now piece) (now out) ⌝ }
+    ensures { λ r. ⌜ Ran run (now (hold .entry)) (now (out .entry)) r (now (hold .exit)) (now (out .exit)) ⌝ }
+{
+    let mut r = run;
     let mut turns: u64 = 18446744073709551615;
     while 0 < turns {
-        let got = libc::read(0, piece);
-        let n = io::count(got, piece);
-        if n == 0 {
-            return s;
+        let ending = r.ending;
+        if endings::is_going(ending) {
+            r = turn(fd, piece, hold, out, r);
+            turns -= 1;
+        } else {
+            return r;
         }
-        s = turn(buffer::front(piece, n), hold, out, s);
-        turns -= 1;
     }
-    s
+    r
+}
+
+// Answers a whole input, and says how the run ended.
+fn answer_all(fd: i32, out: &mut [u8; OUT]) -> Ending
+    ensures { λ r. ⌜ Answered (now (out .entry)) r ⌝ }
+{
+    let mut piece = [0u8; PIECE];
+    let mut hold = [0u8; 65537];
+    let run = answers::begin(out);
+    let run = tell(out, run);
+    let run = all_turns(fd, &mut piece, &mut hold, out, run);
+    run.ending
+}
+
+fn answer_file(name: &[u8], out: &mut [u8; OUT]) -> Ending {
+    let fd = os::open_read(name);
+    if fd < 0 {
+        return Ending::Unopened;
+    }
+    answer_all(fd, out)
+}
+
+// Says on standard error why a run is not complete.
+fn complain(out: &mut [u8; OUT], source: Source, name: &[u8], ending: Ending) {
+    let n = endings::complaint(out, b"cue_answers", source, name, ending);
+    desk_io::write(2, strlib::text(out, StrPtr::full(0, n)));
 }
 
 fn main() {
-    let mut piece = io::buffer();
-    let mut hold = [0u8; 65537];
-    let mut out = [0u8; 630000];
-    let n = answers::begin(&mut out);
-    io::write_all(1, buffer::front(&out, n));
-    let s = all_turns(&mut piece, &mut hold, &mut out);
-    let n = answers::finish(&hold, &mut out, s);
-    io::write_all(1, buffer::front(&out, n));
+    let mut out = [0u8; OUT];
+    let mut name = io::buffer();
+    let n = desk_io::argument(&mut name);
+    let named = StrPtr::full(0, n);
+    let source = endings::source_of(os::arg_count(), strlib::text(&name, named));
+    let ending = match source {
+        Source::Input => answer_all(0, &mut out),
+        Source::File => answer_file(strlib::text(&name, named), &mut out),
+        Source::Neither => Ending::Misused,
+    };
+    endings::show(&mut name);
+    complain(&mut out, source, strlib::text(&name, named), ending);
 }

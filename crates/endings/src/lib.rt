@@ -138,7 +138,13 @@ fn put_usage(out: &mut [u8], program: &[u8]) -> usize
 }
 
 // Puts the line that a program writes on standard error, by how its run ended: of a complete run nothing.
-pub fn complaint(out: &mut [u8], program: &[u8], source: Source, name: &[u8], ending: Ending) -> usize
+pub fn complaint(
+    out: &mut [u8],
+    program: &[u8],
+    source: Source,
+    name: &[u8],
+    ending: Ending,
+) -> usize
     ensures { λ r. ⌜ (r, now (out .exit)) ≡ grown (now (out .entry)) 0 (complaintText (now (program .entry)) source (now (name .entry)) ending) ⌝ }
 {
     match ending {

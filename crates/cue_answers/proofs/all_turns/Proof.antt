@@ -1,14 +1,16 @@
 use mathlib.Core.Path.{_≡_}
 use lib.ListN.{length}
-use borrow.Author.Needs.{needs}
+use Rattle.cue_answers.specs.Loop.{Ran}
+use Rattle.cue_answers.proofs.Looping.{loop-laws}
 use Rattle.cue_answers.proofs.all_turns.Statement.{statement}
 use Rattle.cue_answers.proofs.all_turns.Tie as tie
 
 abbrev Inv-loop : tie.InvT-loop
-Inv-loop piece₀ hold₀ out₀ s₀ turns₀ piece hold out s turns = (length piece ≡ length piece₀) × (length out ≡ length out₀)
+Inv-loop fd piece₀ hold₀ out₀ r₀ turns₀ piece hold out r turns =
+    (length piece ≡ length piece₀) × (length out ≡ length out₀) × Ran r₀ hold₀ out₀ r hold out
 
 abbrev μ-loop : tie.MeasureT-loop
-μ-loop piece₀ hold₀ out₀ s₀ turns₀ piece hold out s turns = turns
+μ-loop fd piece₀ hold₀ out₀ r₀ turns₀ piece hold out r turns = turns
 
 pub all-turns-spec : {M : Type 1} → statement M
 all-turns-spec =
@@ -16,17 +18,15 @@ all-turns-spec =
     (tie.spec
     Inv-loop
     μ-loop
-    (λ c. search needs)
-    (λ c κs. search needs)
-    (λ c κs. search needs)
-    (λ c. search needs)
-    (λ c. search needs)
-    (λ c. search needs)
-    (λ c κs. search needs)
-    (λ c κs. search needs)
-    (λ c. search needs)
-    (λ c. search needs)
-    (λ c. search needs)
-    (λ c. search needs)
-    (λ c. search needs)
-    (λ c. search needs))
+    (λ c. search loop-laws)
+    (λ c κs. search loop-laws)
+    (λ c κs. search loop-laws)
+    (λ c. search loop-laws)
+    (λ c. search loop-laws)
+    (λ c. search loop-laws)
+    (λ c. search loop-laws)
+    (λ c. search loop-laws)
+    (λ c. search loop-laws)
+    (λ c. search loop-laws)
+    (λ c. search loop-laws)
+    (λ c. search loop-laws))

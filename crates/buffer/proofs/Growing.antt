@@ -12,27 +12,27 @@ use Rattle.strlib.proofs.Storing.{put-none, put-length, put-put, put-more, take
 use Rattle.strlib.specs.Store.{put}
 use Rattle.buffer.specs.Buffer.{grown}
 
--- ---- byte by byte: `count` bytes of the text fit behind the first `at`
+-- ---- byte by byte: i bytes of the text stand behind the first `from`
 
-module _ (b : List ℕ) (n at : ℕ) (t : List ℕ) (count : ℕ) (ea : at ≡ min n (length b)) (ec : count ≡ min (length t) (length b - at)) where
-  pub grow-start : b ≡ put b at (take 0 t)
-  grow-start = sym (put-none b at)
+module _ (b : List ℕ) (n from : ℕ) (t : List ℕ) (ea : from ≡ min n (length b)) where
+  pub grow-start : b ≡ put b from (take 0 t)
+  grow-start = sym (put-none b from)
 
-  module _ (b′ : List ℕ) (i : ℕ) (e : b′ ≡ put b at (take i t)) where
-    pub grow-step : i < count → set b′ (at + i) (getD t i 0) ≡ put b at (take (i + 1) t)
-    grow-step h =
-        let l : length (take i t) ≡ i = rw length-take (omega arith) in
-        let m : at + length (take i t) < length b = omega arith in
-        rw (e, add-one, take-suc t i 0 (omega arith)) (rw l at (put-more b at (take i t) (getD t i 0) m))
+  module _ (b′ : List ℕ) (at i : ℕ) (e : b′ ≡ put b from (take i t)) (p : at ≡ from + i) where
+    pub grow-step : at < length b′ → length b′ ≡ length b → i < length t → set b′ at (getD t i 0) ≡ put b from (take (i + 1) t)
+    grow-step h l k =
+        let m : length (take i t) ≡ i = rw length-take (omega arith) in
+        let f : from + length (take i t) < length b = omega arith in
+        rw (e, add-one, take-suc t i 0 k, p) (rw m at (put-more b from (take i t) (getD t i 0) f))
 
-    pub grow-end : i ≤ count → count ≤ i → (at + count, b′) ≡ grown b n t
+    -- nothing is left of the text, or of the room
+    grow-stop : i ≡ min (length t) (length b - from) → (at, b′) ≡ grown b n t
     unfolding grown
-    grow-end h k =
-        let j : i ≡ count = omega arith in
-        let c : at + count ≡ min (n + length t) (length b) = omega arith in
+    grow-stop j =
+        let c : at ≡ min (n + length t) (length b) = omega arith in
         either n (length b)
         (λ (g : n ≤ length b).
-        let a : at ≡ n = omega arith in
+        let a : from ≡ n = omega arith in
         let f : take i t ≡ take (length b - n) t =
         either (length t) (length b - n)
         (λ (x : length t ≤ length b - n). take-all i t (omega arith) ∙ sym (take-all (length b - n) t x))
@@ -41,9 +41,15 @@ module _ (b : List ℕ) (n at : ℕ) (t : List ℕ) (count : ℕ) (ea : at ≡ m
         (λ (g : length b < n).
         let z : length b - n ≡ 0 = omega arith in
         let y : i ≡ 0 = omega arith in
-        rw (e, y, z, c, put-none b at, put-none b n))
+        rw (e, y, z, c, put-none b from, put-none b n))
 
-pub ruleset grow-laws = (needs, grow-start, grow-step, grow-end)
+    pub grow-full : i < length t → length b′ ≡ length b → at ≤ length b → length b′ ≤ at → (at, b′) ≡ grown b n t
+    grow-full k l m h = grow-stop (omega arith)
+
+    pub grow-end : i ≤ length t → at ≤ length b → length t ≤ i → (at, b′) ≡ grown b n t
+    grow-end k m h = grow-stop (omega arith)
+
+pub ruleset grow-laws = (needs, grow-start, grow-step, grow-full, grow-end)
 
 -- ---- what follows from the equation
 

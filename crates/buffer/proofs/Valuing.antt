@@ -1,12 +1,12 @@
--- The text of a number is what `number` writes into 37 bytes, which are room enough, so that only the range is left to refuse. Assumes nothing.
+-- The text of a number is what `number` writes into 12 bytes, which are room enough, so that only the range is left to refuse. Assumes nothing.
 use mathlib.Core.Path.{_≡_, refl, sym, ap, _∙_}
 use mathlib.Core.Bool.{Bool, true, false, cond}
 use mathlib.Core.List.{List, []}
-use Prim.Native.Nat.{ℕ, _≤_}
+use Prim.Native.Nat.{ℕ, suc, _≤_}
 use native.Mathlib.Omega.{arith}
 use borrow.Author.Needs.{needs}
 use borrow.Author.Tests.{le-leb}
-use lib.IntN.{ℤ}
+use lib.IntN.{ℤ, pos, negsuc}
 use lib.ListN.{length}
 use Rattle.strlib.proofs.Pointing.{is-good}
 use Rattle.strlib.proofs.Refusing.{bool-case}
@@ -15,18 +15,26 @@ use Rattle.strlib.specs.Refusal.{Outcome, refused, gives, answered}
 use Rattle.strlib.specs.declared.StrPtr.{StrPtr}
 use Rattle.strlib.specs.declared.StrAnswer.{StrAnswer}
 use Rattle.strlib.specs.declared.StrAnswer.the-variants.{Given, Refused}
+use Rattle.number.proofs.Counting.{digits-under}
+use Rattle.number.proofs.Ranging.{range-mag}
 use Rattle.number.proofs.RoundTrip.{round-trip, write-gave}
 use Rattle.number.specs.Limits.{isBase, inRange}
-use Rattle.number.specs.Written.{written}
+use Rattle.number.specs.Written.{sign, written}
 use Rattle.number.specs.Number.{writeRule}
 use Rattle.buffer.specs.Buffer.{grown, valueText}
 
--- with 37 bytes every number of the range is written
-room-gives : (s : List ℕ) (z : ℤ) → length s ≡ 37 → inRange z ≡ true → writeRule s (pointer 0 0 37) z 10 .0 ≡ gives (sized (pointer 0 0 37) (length (written 10 z)))
+-- a number of the range has at most 11 digits, and a sign
+value-room : (z : ℤ) → inRange z ≡ true → length (written 10 z) ≤ 12
+unfolding written sign
+value-room (pos n) h = omega (arith, digits-under 10 10 n (omega arith) (omega (arith, range-mag (pos n) h)))
+value-room (negsuc n) h = omega (arith, digits-under 10 10 (suc n) (omega arith) (omega (arith, range-mag (negsuc n) h)))
+
+-- so that each is written
+room-gives : (s : List ℕ) (z : ℤ) → length s ≡ 12 → inRange z ≡ true → writeRule s (pointer 0 0 12) z 10 .0 ≡ gives (sized (pointer 0 0 12) (length (written 10 z)))
 unfolding storeFits pointer isBase
 room-gives s z l h =
-    let p : StrPtr = record { start = 0; length = 0; maximum = 37 } in
-    round-trip .calls s p z 10 (le-leb (length s) 65536 (omega arith)) refl (is-good (length s) p (omega arith) (omega arith)) h (round-trip .room 10 z) .0
+    let p : StrPtr = record { start = 0; length = 0; maximum = 12 } in
+    round-trip .calls s p z 10 (le-leb (length s) 65536 (omega arith)) refl (is-good (length s) p (omega arith) (omega arith)) h (value-room z h) .0
 
 module _ (b : List ℕ) (n : ℕ) (b′ : List ℕ) (r : ℕ) (s s′ : List ℕ) (p : StrPtr) (z z′ : ℤ) (a : StrAnswer)
     (ez : z′ ≡ z) (w : (answered a, s′) ≡ writeRule s p z′ 10) where
@@ -43,12 +51,12 @@ module _ (b : List ℕ) (n : ℕ) (b′ : List ℕ) (r : ℕ) (s s′ : List ℕ
       let t : x ≡ written 10 z = f ∙ ap (λ (y : List ℕ). textOf y q) store ∙ o .1 in
       rw (o .0, ← t) g
 
-  pub value-none : (k : ℕ) → a ≡ Refused k → length s ≡ 37 → p ≡ pointer 0 0 37 → (r, b′) ≡ grown b n [] → (r, b′) ≡ grown b n (valueText z)
+  pub value-none : (k : ℕ) → a ≡ Refused k → length s ≡ 12 → p ≡ pointer 0 0 12 → (r, b′) ≡ grown b n [] → (r, b′) ≡ grown b n (valueText z)
   unfolding valueText
   value-none k e l ep g =
       bool-case (inRange z)
       (λ (h : inRange z ≡ true).
-      let c : refused k ≡ gives (sized (pointer 0 0 37) (length (written 10 z))) =
+      let c : refused k ≡ gives (sized (pointer 0 0 12) (length (written 10 z))) =
       sym (ap answered e) ∙ answer ∙ ap (λ (y : StrPtr). writeRule s y z 10 .0) ep ∙ room-gives s z l h in
       absurd (no-refusal k _ c))
       (λ (h : inRange z ≡ false). rw h g)

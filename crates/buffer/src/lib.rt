@@ -10,14 +10,17 @@ ghost use Rattle.buffer.specs.Buffer.{grown, valueText};
 pub fn append(buffer: &mut [u8], n: usize, text: &[u8]) -> usize
     ensures { λ r. ⌜ (r, now (buffer .exit)) ≡ grown (now (buffer .entry)) n (now (text .entry)) ⌝ }
 {
-    let at = moving::least(n, buffer.len());
-    let count = moving::least(text.len(), buffer.len() - at);
+    let mut at = moving::least(n, buffer.len());
     let mut i = 0;
-    while i < count {
-        buffer[at + i] = text[i];
+    while i < text.len() {
+        if buffer.len() <= at {
+            return at;
+        }
+        buffer[at] = text[i];
+        at += 1;
         i += 1;
     }
-    at + count
+    at
 }
 
 // Puts a count there, in decimal.
@@ -41,8 +44,8 @@ pub fn append_both(buffer: &mut [u8], n: usize, text: &[u8], value: u64) -> usiz
 pub fn append_value(buffer: &mut [u8], n: usize, value: i64) -> usize
     ensures { λ r. ⌜ (r, now (buffer .exit)) ≡ grown (now (buffer .entry)) n (valueText value) ⌝ }
 {
-    let mut text = [0u8; 37];
-    let written = number::write(&mut text, StrPtr::new(0, 0, 37), value, 10);
+    let mut text = [0u8; 12];
+    let written = number::write(&mut text, StrPtr::new(0, 0, 12), value, 10);
     match written {
         StrAnswer::Given(p) => append(buffer, n, strlib::text(&text, p)),
         StrAnswer::Refused(_) => append(buffer, n, b""),

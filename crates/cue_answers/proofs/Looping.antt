@@ -55,9 +55,6 @@ pub ruleset loop-laws = (needs, turn-is, ran-start, ran-more, room-kept)
 
 -- ---- a whole run
 
-pub room-is : (p o : List ℕ) → length p ≡ 2048 → length o ≡ 73728 → Room p o
-room-is p o e f = record { answers = rw (e, f) (omega arith); last = omega arith }
-
 pub answer-is : (o o′ : List ℕ) (b r r′ : Run) (h h′ o″ : List ℕ) → length h ≡ 65537 → (b, o′) ≡ begun o → Told b r → Ran r h o′ r′ h′ o″ → Answered o (r′ .ending)
 unfolding stage
 answer-is o o′ b r r′ h h′ o″ l e w f =
@@ -80,4 +77,4 @@ answer-is o o′ b r r′ h h′ o″ l e w f =
     both : {x y : Run} {s t : List ℕ} → x ≡ y → s ≡ t → _≡_ {A = Run × List ℕ} (x, s) (y, t)
     both p q = rw (p, q)
 
-pub ruleset answer-laws = (needs, room-is, answer-is)
+pub ruleset answer-laws = (needs, answer-is)

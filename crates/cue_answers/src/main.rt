@@ -7,8 +7,9 @@ ghost use lib.ListN.{length};
 ghost use Prim.Native.Nat.{_≤_, _*_};
 ghost use Rattle.cue_answers.specs.Loop.{Room, Told, Turned, Ran, Answered};
 
-// Bytes that are read at a time, and room for the answers to them: 36 bytes for each.
-const PIECE: usize = 2048;
+// Bytes that are read at a time, and room for the answers to them, 36 bytes for each. Together with the line that is held
+// they take less than 192 KB of stack.
+const PIECE: usize = 3072;
 
 const OUT: usize = 36 * PIECE;
 

@@ -35,14 +35,14 @@ use Rattle.answers.specs.declared.turns.Run.{Run}
 
 -- ---- a piece is fed to a state that is made anew
 
-module _ (s : State) (h o : List ℕ) (k : ℕ) (e : k ≡ min (s .held) 65537) (l : length h ≡ 65537) where
-  pub anew-ready : Fits w64 (s .lines) → Fits w64 (s .ok) → Ready h o (record { lines = s .lines; ok = s .ok; held = k; out = 0 })
-  anew-ready f g = record { size = l; held = omega arith; inside = omega arith; lines = count-fits (s .lines) f; ok = count-fits (s .ok) g }
+module _ (s : State) (h o : List ℕ) (k : ℕ) (l : length h ≡ 65537) where
+  pub anew-ready : (j : ℕ) → k ≡ min j 65537 → Fits w64 (s .lines) → Fits w64 (s .ok) → Ready h o (record { lines = s .lines; ok = s .ok; held = k; out = 0 })
+  anew-ready j e f g = record { size = l; held = omega arith; inside = omega arith; lines = count-fits (s .lines) f; ok = count-fits (s .ok) g }
 
-  pub anew-fed : (part : List ℕ) (r : State) (h′ o′ : List ℕ) → Fed (record { lines = s .lines; ok = s .ok; held = k; out = 0 }) h o part r h′ o′
+  pub anew-fed : k ≡ min (s .held) 65537 → (part : List ℕ) (r : State) (h′ o′ : List ℕ) → Fed (record { lines = s .lines; ok = s .ok; held = k; out = 0 }) h o part r h′ o′
       → Fed (anew s (length h)) h o part r h′ o′
   unfolding anew
-  anew-fed part r h′ o′ f = let j : min (s .held) (length h) ≡ k = omega arith in rw j f
+  anew-fed e part r h′ o′ f = let j : min (s .held) (length h) ≡ k = omega arith in rw j f
 
 pub ruleset feed-laws = (needs, anew-ready, anew-fed)
 

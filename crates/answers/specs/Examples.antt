@@ -15,7 +15,7 @@ use Rattle.words.specs.Words.{wordsIn, same}
 use Rattle.desk.specs.Cue.{formed, isSize, isIndex, isGain, cueRefusal, cueOf, cueRule}
 use Rattle.desk.specs.declared.cue.Cue.{Cue}
 use Rattle.answers.specs.Text.{end, heading, okText, cueText, answerText, totalText}
-use Rattle.answers.specs.Program.{counted, goodOf, answersText, goods, totals, programText}
+use Rattle.answers.specs.Program.{counted, goodOf, answersText, goods, totals, programText, ended, openText}
 
 abbrev pub line1 : List ℕ
 line1 = bytes "MIC 7 TO LSP 31 GAIN -120"
@@ -38,6 +38,8 @@ pub record Examples : Type 0 where
   -- no line at all, and one empty line
   pub nothing : programText [] ≡ bytes "cue answers" ++ end ++ bytes "total 0 ok 0 refused 0" ++ end
   pub one-empty : programText end ≡ bytes "cue answers" ++ end ++ bytes "1 refused 11" ++ end ++ bytes "total 1 ok 0 refused 1" ++ end
+  -- a read that fails within a gain: the cut line is not answered, and there is no total
+  pub cut-short : openText (line3 ++ end ++ bytes "MIC 7 TO LSP 31 GAIN -12") ≡ bytes "cue answers" ++ end ++ bytes "1 refused 11" ++ end
 
 cue-one : cueRule line1 64 128 ≡ cue1
 unfolding
@@ -88,7 +90,15 @@ one : (a : Outcome Cue) → cueRule [] 64 128 ≡ a → programText end ≡ head
 unfolding programText answersText goods
 one a e = rw (lines-one, e)
 
+ended-cut : ended [] (line3 ++ end ++ bytes "MIC 7 TO LSP 31 GAIN -12") ≡ line3 ∷ []
+unfolding ended
+ended-cut = refl
+
+cut : (a : Outcome Cue) → cueRule line3 64 128 ≡ a → openText (line3 ++ end ++ bytes "MIC 7 TO LSP 31 GAIN -12") ≡ heading ++ (answerText (counted 1) a ++ [])
+unfolding openText answersText
+cut a e = rw (ended-cut, e)
+
 pub examples : Examples
 unfolding digits digitsIn sign written okText cueText answerText totalText goodOf counted heading totals programText answersText goods linesIn
 examples =
-    record { three-lines = three cue1 (refused 12) (refused 11) cue-one cue-two cue-three; last-unended = unended; nothing = refl; one-empty = one (refused 11) cue-empty }
+    record { three-lines = three cue1 (refused 12) (refused 11) cue-one cue-two cue-three; last-unended = unended; nothing = refl; one-empty = one (refused 11) cue-empty; cut-short = cut (refused 11) cue-three }

@@ -31,7 +31,7 @@ use Rattle.answers.specs.Text.{answerText}
 use Rattle.answers.specs.Program.{counted, goodOf, answersText, goods, ended, left}
 use Rattle.answers.specs.Run.{keptIn}
 use Rattle.answers.specs.Inner.{Answered, Ready, endedBy, leftBy, keptBy, Counted, Taken, Walked, Fed}
-use Rattle.answers.specs.declared.pieces.State.{State}
+use Rattle.answers.specs.declared.lines.State.{State}
 
 -- ---- a line is judged by its first m bytes, where m is over 65,536
 

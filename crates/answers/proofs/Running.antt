@@ -24,7 +24,7 @@ use Rattle.answers.proofs.Turning.{take-clamped}
 use Rattle.answers.specs.Text.{heading}
 use Rattle.answers.specs.Program.{counted, answersText, goods, totals, programText, ended, left, lastOf, endText, openText}
 use Rattle.answers.specs.Run.{Stage, stage, telling, keptIn, endedIn, fed, finished, silent, readBy, afterRead, wrote, told, begun, Event, reading, turned, ran, output, given, input, metEnd, allDone, Roomy, opened, RunWrites}
-use Rattle.answers.specs.declared.pieces.State.{State}
+use Rattle.answers.specs.declared.lines.State.{State}
 use Rattle.answers.specs.declared.turns.Run.{Run}
 
 -- ---- the lines of an input are those that end and the last one

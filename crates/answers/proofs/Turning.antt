@@ -30,7 +30,7 @@ use Rattle.answers.specs.Text.{heading, answerText, totalText}
 use Rattle.answers.specs.Program.{counted, goodOf, goods, totals, answersText, lastOf, endText, ended}
 use Rattle.answers.specs.Run.{stage, telling, keptIn, endedIn, fed, finished, silent, readBy, afterRead, wrote, begun}
 use Rattle.answers.specs.Inner.{Answered, Ready, Fed, anew}
-use Rattle.answers.specs.declared.pieces.State.{State}
+use Rattle.answers.specs.declared.lines.State.{State}
 use Rattle.answers.specs.declared.turns.Run.{Run}
 
 -- ---- a piece is fed to a state that is made anew

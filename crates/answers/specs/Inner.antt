@@ -12,7 +12,7 @@ use Rattle.buffer.specs.Buffer.{grown}
 use Rattle.answers.specs.Text.{answerText}
 use Rattle.answers.specs.Program.{counted, goodOf, goods, answersText, ended, left}
 use Rattle.answers.specs.Run.{keptIn}
-use Rattle.answers.specs.declared.pieces.State.{State}
+use Rattle.answers.specs.declared.lines.State.{State}
 
 -- a gain that can be written
 unfoldable pub writable : Outcome Cue → Bool

@@ -12,7 +12,7 @@ use Rattle.endings.specs.declared.Ending.{Ending}
 use Rattle.endings.specs.declared.Ending.the-variants.{Going, Complete, Unread}
 use Rattle.answers.specs.Text.{heading}
 use Rattle.answers.specs.Program.{counted, goods, answersText, endText, ended, programText, openText}
-use Rattle.answers.specs.declared.pieces.State.{State}
+use Rattle.answers.specs.declared.lines.State.{State}
 use Rattle.answers.specs.declared.turns.Run.{Run}
 
 -- where a run stands: the run itself, and what was lent to it: the bytes of a line that has no end yet, and the buffer of answers

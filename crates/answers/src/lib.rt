@@ -1,9 +1,9 @@
 // The answers to cue lines that come in pieces: the program without its reading and writing.
+mod lines;
 mod pieces;
-mod texts;
 mod turns;
 
-pub use pieces::State;
+pub use lines::State;
 pub use turns::Run;
 pub use turns::after_read;
 pub use turns::after_write;

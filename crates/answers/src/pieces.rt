@@ -1,37 +1,12 @@
 // Answers, line by line, however the input is cut into pieces.
-use super::texts;
-use desk::Cue;
+use super::lines;
+use lines::State;
 use strlib::StrPtr;
 ghost use mathlib.Core.Path.{_≡_};
 ghost use lib.ListN.{length, take};
-ghost use Rattle.desk.specs.Cue.{cueRule};
 ghost use Rattle.buffer.specs.Buffer.{grown};
 ghost use Rattle.answers.specs.Program.{endText};
-ghost use Rattle.answers.specs.Inner.{Answered, Ready, Taken, Fed, anew};
-
-// How many lines were answered and how many of them are good, how many bytes of an unended line are held, and how many
-// bytes of answers there are.
-pub struct State {
-    pub lines: u64,
-    pub ok: u64,
-    pub held: usize,
-    pub out: usize,
-}
-
-// Answers a whole line.
-fn answer(line: &[u8], out: &mut [u8], s: State) -> State
-    ensures { λ r. ⌜ Answered s (now (out .entry)) (cueRule (now (line .entry)) 64 128) r (now (out .exit)) ⌝ }
-{
-    let cue = desk::read_cue(line, Cue::MICROPHONES_MAX, Cue::LOUDSPEAKERS_MAX);
-    let lines = texts::count(s.lines);
-    let n = texts::put_answer(out, s.out, lines, cue);
-    State {
-        lines,
-        ok: texts::count_good(s.ok, cue),
-        held: 0,
-        out: n,
-    }
-}
+ghost use Rattle.answers.specs.Inner.{Ready, Taken, Fed, anew};
 
 // Takes a line, or the start of one. A line is held up to 65,537 bytes, which is enough to refuse it.
 fn take_line(part: &[u8], full: bool, hold: &mut [u8], out: &mut [u8], s: State) -> State
@@ -40,10 +15,10 @@ fn take_line(part: &[u8], full: bool, hold: &mut [u8], out: &mut [u8], s: State)
 {
     if full {
         if s.held == 0 {
-            return answer(part, out, s);
+            return lines::answer(part, out, s);
         }
         let held = buffer::append(hold, s.held, part);
-        return answer(strlib::text(hold, StrPtr::full(0, held)), out, s);
+        return lines::answer(strlib::text(hold, StrPtr::full(0, held)), out, s);
     }
     State {
         lines: s.lines,
@@ -93,8 +68,8 @@ pub fn finish(hold: &[u8; 65537], out: &mut [u8], s: State) -> usize
             held: 0,
             out: 0,
         };
-        let t = answer(strlib::text(hold, StrPtr::full(0, s.held)), out, t);
-        return texts::put_total(out, t.out, t.lines, t.ok);
+        let t = lines::answer(strlib::text(hold, StrPtr::full(0, s.held)), out, t);
+        return lines::put_total(out, t.out, t.lines, t.ok);
     }
-    texts::put_total(out, 0, s.lines, s.ok)
+    lines::put_total(out, 0, s.lines, s.ok)
 }

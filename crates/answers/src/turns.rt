@@ -1,7 +1,8 @@
 // A run of the program, turn by turn: what a read answered is taken in here, and so is whether a write took all its bytes.
+use super::lines;
 use super::pieces;
 use endings::Ending;
-use pieces::State;
+use lines::State;
 use strlib::StrPtr;
 ghost use mathlib.Core.Path.{_≡_};
 ghost use Rattle.answers.specs.Run.{stage, telling, afterRead, wrote, begun};

@@ -1,4 +1,6 @@
 // Reading and writing for the desk's programs. A call that a signal interrupted is made again.
+ghost use mathlib.Core.Bool.{true};
+ghost use mathlib.Core.Path.{_≡_};
 ghost use Prim.Native.Nat.{_≤_};
 ghost use lib.ListN.{length};
 ghost use Rattle.libc.specs.Io.{Moved};
@@ -24,8 +26,11 @@ pub fn read(fd: i32, buf: &mut [u8]) -> isize
     -1
 }
 
-// Writes all of buf, in as many calls as that takes; false where one failed or took nothing.
-pub fn write(fd: i32, buf: &[u8]) -> bool {
+// Writes all of buf, in as many calls as that takes; false where one failed or took nothing. What C's `write` takes no
+// contract can say; a text of no bytes is always written.
+pub fn write(fd: i32, buf: &[u8]) -> bool
+    ensures { λ r. ⌜ (length (now (buf .entry)) ≡ 0 → r ≡ true) ⌝ }
+{
     let mut done = 0;
     let mut tries = TRIES;
     while done < buf.len() {

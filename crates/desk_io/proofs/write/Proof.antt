@@ -1,5 +1,7 @@
 use Prim.Native.Nat.{_≤_}
 use lib.ListN.{length}
+use native.Mathlib.Omega.{arith}
+use mathlib.Core.Path.{refl}
 use borrow.Author.Needs.{needs}
 use Rattle.desk_io.proofs.write.Statement.{statement}
 use Rattle.desk_io.proofs.write.Tie as tie
@@ -17,20 +19,20 @@ write-spec =
     Inv-loop
     μ-loop
     (λ c. search needs)
+    (λ c. λ z. absurd (omega (arith, z)))
     (λ c. search needs)
+    (λ c. search needs)
+    (λ c. search needs)
+    (λ c κs. tt)
+    (λ c. λ z. absurd (omega (arith, z)))
+    (λ c κs. tt)
+    (λ c. λ z. absurd (omega (arith, z)))
     (λ c. search needs)
     (λ c. search needs)
     (λ c. search needs)
     (λ c κs. tt)
     (λ c. search needs)
-    (λ c κs. tt)
     (λ c. search needs)
     (λ c. search needs)
     (λ c. search needs)
-    (λ c. search needs)
-    (λ c κs. tt)
-    (λ c. search needs)
-    (λ c. search needs)
-    (λ c. search needs)
-    (λ c. search needs)
-    (λ c. search needs))
+    (λ c. λ z. refl))

@@ -1,8 +1,8 @@
 use borrow.Author.Needs.{needs}
 use Rattle.answers.specs.Text.{answerText}
 use Rattle.buffer.proofs.Growing.{grow-more}
-use Rattle.answers.proofs.texts.put_answer.Statement.{statement}
-use Rattle.answers.proofs.texts.put_answer.Tie as tie
+use Rattle.answers.proofs.lines.put_answer.Statement.{statement}
+use Rattle.answers.proofs.lines.put_answer.Tie as tie
 
 pub put-answer-spec : {M : Type 1} → statement M
 unfolding answerText

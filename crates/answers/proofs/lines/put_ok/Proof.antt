@@ -7,8 +7,8 @@ use mathlib.Core.Path.{_≡_}
 use Rattle.number.specs.Limits.{inRange}
 use Rattle.desk.specs.declared.cue.Cue.{Cue}
 use Rattle.answers.proofs.Putting.{ok-is}
-use Rattle.answers.proofs.texts.put_ok.Statement.{statement}
-use Rattle.answers.proofs.texts.put_ok.Tie as tie
+use Rattle.answers.proofs.lines.put_ok.Statement.{statement}
+use Rattle.answers.proofs.lines.put_ok.Tie as tie
 
 pub put-ok-spec : {M : Type 1} → statement M
 put-ok-spec =

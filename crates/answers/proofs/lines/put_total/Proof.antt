@@ -1,7 +1,7 @@
 use borrow.Author.Needs.{needs}
 use Rattle.answers.proofs.Putting.{total-is}
-use Rattle.answers.proofs.texts.put_total.Statement.{statement}
-use Rattle.answers.proofs.texts.put_total.Tie as tie
+use Rattle.answers.proofs.lines.put_total.Statement.{statement}
+use Rattle.answers.proofs.lines.put_total.Tie as tie
 
 pub put-total-spec : {M : Type 1} → statement M
 put-total-spec =

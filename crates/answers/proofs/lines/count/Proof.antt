@@ -1,6 +1,6 @@
 use Rattle.answers.proofs.Putting.{count-laws}
-use Rattle.answers.proofs.texts.count.Statement.{statement}
-use Rattle.answers.proofs.texts.count.Tie as tie
+use Rattle.answers.proofs.lines.count.Statement.{statement}
+use Rattle.answers.proofs.lines.count.Tie as tie
 
 pub count-spec : {M : Type 1} → statement M
 count-spec =

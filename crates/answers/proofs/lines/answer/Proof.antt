@@ -1,8 +1,8 @@
 use borrow.Author.Needs.{needs}
 use Rattle.answers.proofs.Feeding.{answer-is}
 use Rattle.answers.proofs.Putting.{rule-writable}
-use Rattle.answers.proofs.pieces.answer.Statement.{statement}
-use Rattle.answers.proofs.pieces.answer.Tie as tie
+use Rattle.answers.proofs.lines.answer.Statement.{statement}
+use Rattle.answers.proofs.lines.answer.Tie as tie
 
 pub answer-spec : {M : Type 1} → statement M
 answer-spec =

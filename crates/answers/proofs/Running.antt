@@ -23,7 +23,7 @@ use Rattle.answers.proofs.Fitting.{piece-fits, end-fits, heading-fits}
 use Rattle.answers.proofs.Turning.{take-clamped}
 use Rattle.answers.specs.Text.{heading}
 use Rattle.answers.specs.Program.{counted, answersText, goods, totals, programText, ended, left, lastOf, endText, openText}
-use Rattle.answers.specs.Run.{Stage, stage, telling, keptIn, endedIn, fed, finished, silent, readBy, afterRead, wrote, told, begun, Event, reading, turned, ran, output, given, input, metEnd, allDone, Roomy, opened, RunWrites}
+use Rattle.answers.specs.Run.{Stage, stage, telling, keptIn, endedIn, fed, finished, silent, readBy, afterRead, wrote, told, begun, Event, reading, turned, ran, output, input, metEnd, allDone, Roomy, opened, wholeOutput, Writes, RunWrites}
 use Rattle.answers.specs.declared.lines.State.{State}
 use Rattle.answers.specs.declared.turns.Run.{Run}
 
@@ -86,9 +86,9 @@ open-more : (n : ℕ) (q s t : List ℕ) → answersText n (ended q (s ++ t)) �
 open-more n q s t = rw (ended-append q s t) (answers-append n (ended q s) (ended (left q s) t))
 
 -- whatever comes behind, the text of the whole begins with it
-front : (s t : List ℕ) → take (length (openText s)) (programText (s ++ t)) ≡ openText s
+pub open-front : (s t : List ℕ) → take (length (openText s)) (programText (s ++ t)) ≡ openText s
 unfolding openText
-front s t =
+open-front s t =
     let a : List ℕ = answersText 0 (ended [] s) in
     let b : List ℕ = rest (0 + length (ended [] s)) (0 + goods (ended [] s)) (left [] s) t in
     let e : programText (s ++ t) ≡ (heading ++ a) ++ b =
@@ -230,22 +230,22 @@ idle-output : (es : List Event) (g : Stage) → isGoing (g .run .ending) ≡ fal
 idle-output [] g h = refl
 idle-output (e ∷ es) g h = rw (ended-told e g h) (idle-output es (turned e g) (turned-ended e g h))
 
-idle-input : (es : List Event) (g : Stage) → isGoing (g .run .ending) ≡ false → input es g ≡ []
-idle-input [] g h = refl
-idle-input (e ∷ es) g h = rw h (idle-input es (turned e g) (turned-ended e g h))
+input-none : (es : List Event) → input false es ≡ []
+input-none [] = refl
+input-none (e ∷ es) = refl
 
-idle-end : (es : List Event) (g : Stage) → isGoing (g .run .ending) ≡ false → isComplete (g .run .ending) ≡ false → metEnd es g ≡ false
-idle-end [] g h s = refl
-idle-end (e ∷ es) g h s = rw (ended-ending e g h, s) (idle-end es (turned e g) (turned-ended e g h) (turned-short e g h s))
+end-none : (es : List Event) → metEnd false es ≡ false
+end-none [] = refl
+end-none (e ∷ es) = refl
 
 -- ---- what the turns write from a state on
 
 abbrev going : State → List ℕ → List ℕ → Stage
 going s h o = record { run = record { state = s; ending = Going }; hold = h; out = o }
 
-abbrev Writes : List Event → State → List ℕ → List ℕ → ℕ → ℕ → List ℕ → Type 0
-Writes es s h o n k q =
-    output es (going s h o) ≡ cond (metEnd es (going s h o)) (rest n k q (input es (going s h o))) (answersText n (ended q (input es (going s h o))))
+abbrev Written : List Event → State → List ℕ → List ℕ → ℕ → ℕ → List ℕ → Type 0
+Written es s h o n k q =
+    output es (going s h o) ≡ cond (metEnd true es) (rest n k q (input true es)) (answersText n (ended q (input true es)))
 
 roomy-end : (m : ℕ) (es : List Event) → Roomy m es → 116 ≤ m
 roomy-end m [] r = r
@@ -259,24 +259,24 @@ cond-same : (b : Bool) (x x′ y y′ : List ℕ) → x ≡ x′ → y ≡ y′ 
 cond-same true x x′ y y′ e f = e
 cond-same false x x′ y y′ e f = f
 
-module _ (es : List Event) (ih : (s : State) (h o : List ℕ) (n k : ℕ) (q : List ℕ) → Stands s h n k q → Roomy (length o) es → Writes es s h o n k q)
+module _ (es : List Event) (ih : (s : State) (h o : List ℕ) (n k : ℕ) (q : List ℕ) → Stands s h n k q → Roomy (length o) es → Written es s h o n k q)
     (s : State) (h o : List ℕ) (n k : ℕ) (q : List ℕ) (w : Stands s h n k q) (piece : List ℕ) (room : 36 * length piece ≤ length o) (more : Roomy (length o) es) where
   -- a failed read
-  step-failed : (j : ℕ) (d : Bool) → Writes (record { piece = piece; got = negsuc j; done = d } ∷ es) s h o n k q
+  step-failed : (j : ℕ) (d : Bool) → Written (record { piece = piece; got = negsuc j; done = d } ∷ es) s h o n k q
   unfolding afterRead readBy silent stage told telling wrote isGoing isComplete ended answersText
   step-failed j d =
       let g : Stage = record { run = record { state = record { lines = s .lines; ok = s .ok; held = s .held; out = 0 }; ending = afterWrite d Unread }; hold = h; out = o } in
       let f : isGoing (afterWrite d Unread) ≡ false = after-ended d Unread refl in
-      rw (idle-output es g f, idle-input es g f, idle-end es g f (after-short d Unread refl))
+      idle-output es g f
 
   -- the input's end
-  step-end : (d : Bool) → Writes (record { piece = piece; got = pos 0; done = d } ∷ es) s h o n k q
+  step-end : (d : Bool) → Written (record { piece = piece; got = pos 0; done = d } ∷ es) s h o n k q
   unfolding afterRead readBy finished stage wrote isGoing isComplete
   step-end d =
       let g : Stage = turned (record { piece = piece; got = pos 0; done = d }) (going s h o) in
       let f : isGoing (g .run .ending) ≡ false = after-ended d Complete refl in
       let t : told (finished s h o) ≡ endText n k q = finished-told s h n k q w o (roomy-end (length o) es more) in
-      rw (idle-output es g f, idle-input es g f) (append-nil (told (finished s h o)) ∙ t ∙ sym (rest-none n k q))
+      rw (idle-output es g f) (append-nil (told (finished s h o)) ∙ t ∙ sym (rest-none n k q))
 
   module _ (j : ℕ) where
     abbrev part : List ℕ
@@ -288,7 +288,7 @@ module _ (es : List Event) (ih : (s : State) (h o : List ℕ) (n k : ℕ) (q : L
         fed-told s h n k q w o part (omega arith)
 
     -- a piece whose answers were written
-    step-piece : Writes (record { piece = piece; got = pos (suc j); done = true } ∷ es) s h o n k q
+    step-piece : Written (record { piece = piece; got = pos (suc j); done = true } ∷ es) s h o n k q
     unfolding afterRead readBy fed stage wrote afterWrite isGoing isComplete
     step-piece =
         let f : Stage = fed part s h o in
@@ -298,29 +298,29 @@ module _ (es : List Event) (ih : (s : State) (h o : List ℕ) (n k : ℕ) (q : L
         let k2 : ℕ = k + goods (ended q part) in
         let q2 : List ℕ = left q part in
         let m : Roomy (length (f .out)) es = rw (fed-size s h n k q w o part) more in
-        let i : Writes es (f .run .state) (f .hold) (f .out) n2 k2 q2 = ih (f .run .state) (f .hold) (f .out) n2 k2 q2 (fed-stands s h n k q w o part) m in
-        let x : List ℕ = input es g in
+        let i : Written es (f .run .state) (f .hold) (f .out) n2 k2 q2 = ih (f .run .state) (f .hold) (f .out) n2 k2 q2 (fed-stands s h n k q w o part) m in
+        let x : List ℕ = input true es in
         ap (λ (l : List ℕ). l ++ output es g) part-told
         ∙ ap (λ (l : List ℕ). a ++ l) i
-        ∙ cond-append (metEnd es g) a (rest n2 k2 q2 x) (answersText n2 (ended q2 x))
-        ∙ sym (cond-same (metEnd es g) _ _ _ _ (rest-more n k q part x) (open-more n q part x))
+        ∙ cond-append (metEnd true es) a (rest n2 k2 q2 x) (answersText n2 (ended q2 x))
+        ∙ sym (cond-same (metEnd true es) _ _ _ _ (rest-more n k q part x) (open-more n q part x))
 
     -- a piece whose answers could not be written
-    step-unwritten : Writes (record { piece = piece; got = pos (suc j); done = false } ∷ es) s h o n k q
+    step-unwritten : Written (record { piece = piece; got = pos (suc j); done = false } ∷ es) s h o n k q
     unfolding afterRead readBy fed stage wrote afterWrite isGoing isComplete
     step-unwritten =
         let g : Stage = turned (record { piece = piece; got = pos (suc j); done = false }) (going s h o) in
-        rw (idle-output es g refl, idle-input es g refl, idle-end es g refl refl, append-nil part) (append-nil (told (fed part s h o)) ∙ part-told)
+        rw (idle-output es g refl, input-none es, end-none es, append-nil part) (append-nil (told (fed part s h o)) ∙ part-told)
 
-turns-write : (es : List Event) (s : State) (h o : List ℕ) (n k : ℕ) (q : List ℕ) → Stands s h n k q → Roomy (length o) es → Writes es s h o n k q
+turns-write : (es : List Event) (s : State) (h o : List ℕ) (n k : ℕ) (q : List ℕ) → Stands s h n k q → Roomy (length o) es → Written es s h o n k q
 unfolding ended answersText
 turns-write [] s h o n k q w r = refl
 turns-write (e ∷ es) s h o n k q w r =
     step (λ (s′ : State) (h′ o′ : List ℕ) (n′ k′ : ℕ) (q′ : List ℕ) (w′ : Stands s′ h′ n′ k′ q′) (r′ : Roomy (length o′) es). turns-write es s′ h′ o′ n′ k′ q′ w′ r′)
     (e .got) (e .done)
   where
-    step : ((s′ : State) (h′ o′ : List ℕ) (n′ k′ : ℕ) (q′ : List ℕ) → Stands s′ h′ n′ k′ q′ → Roomy (length o′) es → Writes es s′ h′ o′ n′ k′ q′)
-        → (z : ℤ) (d : Bool) → Writes (record { piece = e .piece; got = z; done = d } ∷ es) s h o n k q
+    step : ((s′ : State) (h′ o′ : List ℕ) (n′ k′ : ℕ) (q′ : List ℕ) → Stands s′ h′ n′ k′ q′ → Roomy (length o′) es → Written es s′ h′ o′ n′ k′ q′)
+        → (z : ℤ) (d : Bool) → Written (record { piece = e .piece; got = z; done = d } ∷ es) s h o n k q
     step ih (negsuc j) d = step-failed es ih s h o n k q w (e .piece) (r .0) (r .1) j d
     step ih (pos zero) d = step-end es ih s h o n k q w (e .piece) (r .0) (r .1) d
     step ih (pos (suc j)) true = step-piece es ih s h o n k q w (e .piece) (r .0) (r .1) j
@@ -362,33 +362,31 @@ complete-stays (e ∷ es) g c = go (e .done) refl (λ (f : turned e g .run .endi
     go false f ih = let t = turned-is e g over false f in short-stays es (turned e g) (rw t unwritten-over) (rw t unwritten-short)
 
 module _ (es : List Event) (piece : List ℕ) (s : State) (h o : List ℕ)
-    (ih : (s′ : State) (h′ o′ : List ℕ) → isComplete (ran es (going s′ h′ o′) .run .ending) ≡ (metEnd es (going s′ h′ o′) && allDone es)) where
+    (ih : (s′ : State) (h′ o′ : List ℕ) → isComplete (ran es (going s′ h′ o′) .run .ending) ≡ (metEnd true es && allDone es)) where
   turn-complete : (z : ℤ) (d : Bool)
       → isComplete (ran (record { piece = piece; got = z; done = d } ∷ es) (going s h o) .run .ending)
-      ≡ (metEnd (record { piece = piece; got = z; done = d } ∷ es) (going s h o) && (d && allDone es))
+      ≡ (metEnd true (record { piece = piece; got = z; done = d } ∷ es) && (d && allDone es))
   unfolding afterRead readBy fed finished silent stage wrote afterWrite isGoing isComplete
   turn-complete (negsuc j) true =
-      let g : Stage = turned (record { piece = piece; got = negsuc j; done = true }) (going s h o) in
-      rw (idle-end es g refl refl) (short-stays es g refl refl)
+      short-stays es (turned (record { piece = piece; got = negsuc j; done = true }) (going s h o)) refl refl
   turn-complete (negsuc j) false =
-      let g : Stage = turned (record { piece = piece; got = negsuc j; done = false }) (going s h o) in
-      rw (idle-end es g refl refl) (short-stays es g refl refl)
+      short-stays es (turned (record { piece = piece; got = negsuc j; done = false }) (going s h o)) refl refl
   turn-complete (pos zero) true = complete-stays es (turned (record { piece = piece; got = pos 0; done = true }) (going s h o)) refl
   turn-complete (pos zero) false = short-stays es (turned (record { piece = piece; got = pos 0; done = false }) (going s h o)) refl refl
   turn-complete (pos (suc j)) true = let f : Stage = fed (take (suc j) piece) s h o in ih (f .run .state) (f .hold) (f .out)
   turn-complete (pos (suc j)) false =
       let g : Stage = turned (record { piece = piece; got = pos (suc j); done = false }) (going s h o) in
-      rw (idle-end es g refl refl) (short-stays es g refl refl)
+      rw (end-none es) (short-stays es g refl refl)
 
-going-complete : (es : List Event) (s : State) (h o : List ℕ) → isComplete (ran es (going s h o) .run .ending) ≡ (metEnd es (going s h o) && allDone es)
+going-complete : (es : List Event) (s : State) (h o : List ℕ) → isComplete (ran es (going s h o) .run .ending) ≡ (metEnd true es && allDone es)
 unfolding isComplete
 going-complete [] s h o = refl
 going-complete (e ∷ es) s h o = step (λ (s′ : State) (h′ o′ : List ℕ). going-complete es s′ h′ o′) (e .got) (e .done)
   where
-    step : ((s′ : State) (h′ o′ : List ℕ) → isComplete (ran es (going s′ h′ o′) .run .ending) ≡ (metEnd es (going s′ h′ o′) && allDone es))
+    step : ((s′ : State) (h′ o′ : List ℕ) → isComplete (ran es (going s′ h′ o′) .run .ending) ≡ (metEnd true es && allDone es))
         → (z : ℤ) (d : Bool)
         → isComplete (ran (record { piece = e .piece; got = z; done = d } ∷ es) (going s h o) .run .ending)
-        ≡ (metEnd (record { piece = e .piece; got = z; done = d } ∷ es) (going s h o) && (d && allDone es))
+        ≡ (metEnd true (record { piece = e .piece; got = z; done = d } ∷ es) && (d && allDone es))
     step ih z d = turn-complete es (e .piece) s h o ih z d
 
 -- ---- a whole run
@@ -410,25 +408,23 @@ begun-stands h o e = record { lines = refl; ok = refl; held = refl; size = e }
 
 module _ (h o : List ℕ) (es : List Event) where
   run-text : (done : Bool) → length h ≡ 65537 → Roomy (length o) es
-      → take (begun o .0 .state .out) (begun o .1) ++ output es (opened done h o)
-      ≡ cond (metEnd es (opened done h o)) (programText (input es (opened done h o))) (openText (input es (opened done h o)))
+      → wholeOutput done es h o ≡ cond (metEnd done es) (programText (input done es)) (openText (input done es))
   unfolding wrote afterWrite begun openText isGoing isComplete ended answersText
   run-text true l r =
       let g : Stage = opened true h o in
-      let i : Writes es (start o) h (begun o .1) 0 0 [] = turns-write es (start o) h (begun o .1) 0 0 [] (begun-stands h o l) (rw (begun-size o) r) in
+      let i : Written es (start o) h (begun o .1) 0 0 [] = turns-write es (start o) h (begun o .1) 0 0 [] (begun-stands h o l) (rw (begun-size o) r) in
       ap (λ (x : List ℕ). x ++ output es g) (begun-told o (roomy-end (length o) es r))
       ∙ ap (λ (x : List ℕ). heading ++ x) i
-      ∙ cond-append (metEnd es g) heading (rest 0 0 [] (input es g)) (answersText 0 (ended [] (input es g)))
-      ∙ cond-same (metEnd es g) _ _ _ _ (rest-all (input es g)) refl
+      ∙ cond-append (metEnd true es) heading (rest 0 0 [] (input true es)) (answersText 0 (ended [] (input true es)))
+      ∙ cond-same (metEnd true es) _ _ _ _ (rest-all (input true es)) refl
   run-text false l r =
       let g : Stage = opened false h o in
-      rw (idle-output es g refl, idle-input es g refl, idle-end es g refl refl)
-      (ap (λ (x : List ℕ). x ++ []) (begun-told o (roomy-end (length o) es r)))
+      rw (idle-output es g refl, input-none es, end-none es) (ap (λ (x : List ℕ). x ++ []) (begun-told o (roomy-end (length o) es r)))
 
-  run-complete : (done : Bool) → isComplete (ran es (opened done h o) .run .ending) ≡ (metEnd es (opened done h o) && (done && allDone es))
+  run-complete : (done : Bool) → isComplete (ran es (opened done h o) .run .ending) ≡ (metEnd done es && (done && allDone es))
   unfolding wrote afterWrite begun isGoing isComplete
   run-complete true = going-complete es (start o) h (begun o .1)
-  run-complete false = let g : Stage = opened false h o in rw (idle-end es g refl refl) (short-stays es g refl refl)
+  run-complete false = let g : Stage = opened false h o in rw (end-none es) (short-stays es g refl refl)
 
 pub run-writes : RunWrites
-run-writes = record { text = λ h o done es l r. run-text h o es done l r; complete = λ h o done es. run-complete h o es done; front = front }
+run-writes done es h o l r = record { text = run-text h o es done l r; complete = run-complete h o es done }

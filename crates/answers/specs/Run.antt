@@ -108,44 +108,64 @@ abbrev pub ran : List Event → Stage → Stage
 ran [] g = g
 ran (e ∷ es) g = ran es (turned e g)
 
--- what it was told to write in these turns, and what it had read
+-- what it was told to write in these turns
 abbrev pub output : List Event → Stage → List ℕ
 output [] g = []
 output (e ∷ es) g = told (reading e g) ++ output es (turned e g)
 
-abbrev pub given : ℤ → List ℕ → List ℕ
-given (pos k) piece = take k piece
-given (negsuc k) piece = []
+-- ---- what a run should do, from the turns alone
 
-abbrev pub input : List Event → Stage → List ℕ
-input [] g = []
-input (e ∷ es) g = cond (isGoing (g .run .ending)) (given (e .got) (e .piece)) [] ++ input es (turned e g)
+-- the bytes that were read, up to the input's end, a failed read or a failed write; `done` says that what was to be written before was
+abbrev pub inputBy : ℤ → List ℕ → List ℕ → List ℕ
+inputBy (negsuc k) piece more = []
+inputBy (pos zero) piece more = []
+inputBy (pos (suc k)) piece more = take (suc k) piece ++ more
 
--- whether it met the input's end, and whether every write took all its bytes
-abbrev pub metEnd : List Event → Stage → Bool
-metEnd [] g = false
-metEnd (e ∷ es) g = isComplete (reading e g .run .ending) || metEnd es (turned e g)
+abbrev pub input : Bool → List Event → List ℕ
+input done [] = []
+input done (e ∷ es) = cond done (inputBy (e .got) (e .piece) (input (e .done) es)) []
 
+-- whether the input's end was met: a read answered 0, and none before it failed, nor a write
+abbrev pub endBy : ℤ → Bool → Bool
+endBy (negsuc k) more = false
+endBy (pos zero) more = true
+endBy (pos (suc k)) more = more
+
+abbrev pub metEnd : Bool → List Event → Bool
+metEnd done [] = false
+metEnd done (e ∷ es) = cond done (endBy (e .got) (metEnd (e .done) es)) false
+
+-- whether every write took all its bytes
 abbrev pub allDone : List Event → Bool
 allDone [] = true
 allDone (e ∷ es) = e .done && allDone es
 
--- room for the answers to each piece, and for the end
-abbrev pub Roomy : ℕ → List Event → Type 0
-Roomy n [] = 116 ≤ n
-Roomy n (e ∷ es) = (36 * length (e .piece) ≤ n) × Roomy n es
+-- an answer has at most 36 bytes: 20 digits of a counter, ` ok 64 128 -960` and a line end; the end 116: an answer, and the total's words
+-- with three counters
+abbrev pub answerRoom : ℕ
+answerRoom = 36
 
--- a whole run, the heading's write included, from what was lent
+abbrev pub endRoom : ℕ
+endRoom = 116
+
+-- a byte of a piece can end one line, so that this is room for the answers to each piece, and for the end
+abbrev pub Roomy : ℕ → List Event → Type 0
+Roomy n [] = endRoom ≤ n
+Roomy n (e ∷ es) = (answerRoom * length (e .piece) ≤ n) × Roomy n es
+
+-- a whole run from what was lent: its beginning, the heading's write included, and what it is told to write in all
 abbrev pub opened : Bool → List ℕ → List ℕ → Stage
 opened done h o = record { run = wrote done (begun o .0); hold = h; out = begun o .1 }
 
--- However the input is cut into pieces, and however the run ends: what it is told to write is the program's text of what it read, whole if it
--- met the input's end, else without the unended line's answer and the total. It is complete exactly if it met the end and every write took all.
-pub record RunWrites : Type 0 where
-  pub text : (h o : List ℕ) (done : Bool) (es : List Event) → length h ≡ 65537 → Roomy (length o) es
-      → take (begun o .0 .state .out) (begun o .1) ++ output es (opened done h o)
-      ≡ cond (metEnd es (opened done h o)) (programText (input es (opened done h o))) (openText (input es (opened done h o)))
-  pub complete : (h o : List ℕ) (done : Bool) (es : List Event)
-      → isComplete (ran es (opened done h o) .run .ending) ≡ (metEnd es (opened done h o) && (done && allDone es))
-  -- whatever comes behind what was read, the text of the whole begins with what was written
-  pub front : (read more : List ℕ) → take (length (openText read)) (programText (read ++ more)) ≡ openText read
+abbrev pub wholeOutput : Bool → List Event → List ℕ → List ℕ → List ℕ
+wholeOutput done es h o = take (begun o .0 .state .out) (begun o .1) ++ output es (opened done h o)
+
+-- What it is told to write is the program's text of what was read: whole if the input's end was met, else without the unended line's answer
+-- and the total. It is complete exactly if the end was met and every write took all.
+pub record Writes (done : Bool) (es : List Event) (h o : List ℕ) : Type 0 where
+  pub text : wholeOutput done es h o ≡ cond (metEnd done es) (programText (input done es)) (openText (input done es))
+  pub complete : isComplete (ran es (opened done h o) .run .ending) ≡ (metEnd done es && (done && allDone es))
+
+-- so it is however the input is cut into pieces, whatever a failed read left, and however the run ends
+abbrev pub RunWrites : Type 0
+RunWrites = (done : Bool) (es : List Event) (h o : List ℕ) → length h ≡ 65537 → Roomy (length o) es → Writes done es h o

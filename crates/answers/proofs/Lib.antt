@@ -4,3 +4,4 @@ pub mod Feeding
 pub mod Turning
 pub mod Fitting
 pub mod Running
+pub mod Totalling

@@ -19,7 +19,7 @@ unfoldable pub writable : Outcome Cue → Bool
 writable (gives c) = inRange (c .gain)
 writable (refused k) = true
 
--- the line that a holds was answered
+-- a line was answered, with a
 pub record Answered (s : State) (o : List ℕ) (a : Outcome Cue) (r : State) (o′ : List ℕ) : Type 0 where
   pub text : (r .out, o′) ≡ grown o (s .out) (answerText (counted (s .lines + 1)) a)
   pub lines : r .lines ≡ counted (s .lines + 1)

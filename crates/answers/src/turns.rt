@@ -13,7 +13,8 @@ pub struct Run {
     pub ending: Ending,
 }
 
-fn tell(s: State, n: usize) -> State
+// The state with n bytes of answers to write.
+fn with_text(s: State, n: usize) -> State
     ensures { λ r. ⌜ r ≡ telling s n ⌝ }
 {
     State {
@@ -50,14 +51,14 @@ pub fn after_read(got: isize, piece: &[u8], hold: &mut [u8; 65537], out: &mut [u
     if endings::is_going(ending) {
         if got < 0 {
             return Run {
-                state: tell(s, 0),
+                state: with_text(s, 0),
                 ending: Ending::Unread,
             };
         }
         if got == 0 {
             let n = pieces::finish(hold, out, s);
             return Run {
-                state: tell(s, n),
+                state: with_text(s, n),
                 ending: Ending::Complete,
             };
         }
@@ -69,7 +70,7 @@ pub fn after_read(got: isize, piece: &[u8], hold: &mut [u8; 65537], out: &mut [u
         };
     }
     Run {
-        state: tell(s, 0),
+        state: with_text(s, 0),
         ending,
     }
 }

@@ -3,9 +3,7 @@ use answers::Run;
 use endings::Ending;
 use endings::Source;
 use strlib::StrPtr;
-ghost use lib.ListN.{length};
-ghost use Prim.Native.Nat.{_≤_, _*_};
-ghost use Rattle.cue_answers.specs.Loop.{Room, Told, Turned, Ran, Answered};
+ghost use Rattle.cue_answers.specs.Loop.{Room, Written, Turned, AllTurns, Whole, OfFile};
 
 // Bytes that are read at a time, and room for the answers to them, 36 bytes for each. Together with the line that is held
 // they take less than 192 KB of stack.
@@ -14,8 +12,8 @@ const PIECE: usize = 3072;
 const OUT: usize = 36 * PIECE;
 
 // Writes what a run is told to write.
-fn tell(out: &[u8], run: Run) -> Run
-    ensures { λ r. ⌜ Told run r ⌝ }
+fn write_told(out: &[u8], run: Run) -> Run
+    ensures { λ r. ⌜ Written run r ⌝ }
 {
     let state = run.state;
     let done = desk_io::write(1, strlib::text(out, StrPtr::full(0, state.out)));
@@ -25,17 +23,17 @@ fn tell(out: &[u8], run: Run) -> Run
 // Reads once, and writes the answers.
 fn turn(fd: i32, piece: &mut [u8], hold: &mut [u8; 65537], out: &mut [u8], run: Run) -> Run
     requires { ⌜ Room (now piece) (now out) ⌝ }
-    ensures { λ r. ⌜ Turned run (now (hold .entry)) (now (out .entry)) r (now (hold .exit)) (now (out .exit)) ⌝ }
+    ensures { λ r. ⌜ Turned run (now (piece .exit)) (now (hold .entry)) (now (out .entry)) r (now (hold .exit)) (now (out .exit)) ⌝ }
 {
     let got = desk_io::read(fd, piece);
     let t = answers::after_read(got, piece, hold, out, run);
-    tell(out, t)
+    write_told(out, t)
 }
 
 // Turn after turn, until the run has ended. The turns count down from a number that no input uses up.
 fn all_turns(fd: i32, piece: &mut [u8], hold: &mut [u8; 65537], out: &mut [u8], run: Run) -> Run
     requires { ⌜ Room (now piece) (now out) ⌝ }
-    ensures { λ r. ⌜ Ran run (now (hold .entry)) (now (out .entry)) r (now (hold .exit)) (now (out .exit)) ⌝ }
+    ensures { λ r. ⌜ AllTurns run (now (hold .entry)) (now (out .entry)) r (now (hold .exit)) (now (out .exit)) ⌝ }
 {
     let mut r = run;
     let mut turns: u64 = 18446744073709551615;
@@ -53,17 +51,20 @@ fn all_turns(fd: i32, piece: &mut [u8], hold: &mut [u8; 65537], out: &mut [u8], 
 
 // Answers a whole input, and says how the run ended.
 fn answer_all(fd: i32, out: &mut [u8; OUT]) -> Ending
-    ensures { λ r. ⌜ Answered (now (out .entry)) r ⌝ }
+    ensures { λ r. ⌜ Whole (now (out .entry)) r (now (out .exit)) ⌝ }
 {
     let mut piece = [0u8; PIECE];
     let mut hold = [0u8; 65537];
     let run = answers::begin(out);
-    let run = tell(out, run);
+    let run = write_told(out, run);
     let run = all_turns(fd, &mut piece, &mut hold, out, run);
     run.ending
 }
 
-fn answer_file(name: &[u8], out: &mut [u8; OUT]) -> Ending {
+// The same of a file.
+fn answer_file(name: &[u8], out: &mut [u8; OUT]) -> Ending
+    ensures { λ r. ⌜ OfFile (now (out .entry)) r (now (out .exit)) ⌝ }
+{
     let fd = os::open_read(name);
     if fd < 0 {
         return Ending::Unopened;
@@ -71,7 +72,7 @@ fn answer_file(name: &[u8], out: &mut [u8; OUT]) -> Ending {
     answer_all(fd, out)
 }
 
-// Says on standard error why a run is not complete.
+// Says on standard error why a run is not complete; whether that could be written nobody is left to be told.
 fn complain(out: &mut [u8; OUT], source: Source, name: &[u8], ending: Ending) {
     let n = endings::complaint(out, b"cue_answers", source, name, ending);
     desk_io::write(2, strlib::text(out, StrPtr::full(0, n)));
@@ -80,6 +81,7 @@ fn complain(out: &mut [u8; OUT], source: Source, name: &[u8], ending: Ending) {
 fn main() {
     let mut out = [0u8; OUT];
     let mut name = io::buffer();
+    // an argument too long for the buffer fills it, and no file has a name that long
     let n = desk_io::argument(&mut name);
     let named = StrPtr::full(0, n);
     let source = endings::source_of(os::arg_count(), strlib::text(&name, named));

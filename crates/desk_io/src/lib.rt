@@ -46,6 +46,7 @@ pub fn write(fd: i32, buf: &[u8]) -> bool
                 return false;
             }
         }
+        // an interrupted write, whose answer is negative, counts as one of no bytes
         done += io::count(put, &buf[done..]);
         tries -= 1;
     }
@@ -57,6 +58,7 @@ pub fn argument(name: &mut [u8]) -> usize
     ensures { λ r. ⌜ r ≤ length (now (name .exit)) ⌝ }
 {
     let n = os::arg(1, name);
+    // `os::arg` sets errno whatever it met
     if os::errno() == libc::ENAMETOOLONG {
         return name.len();
     }

@@ -72,7 +72,7 @@ module _ (b b′ : List ℕ) (n r : ℕ) (name : List ℕ) (s : Source) where
   unfolding sourceText
   source-input e g = rw e g
 
-  pub source-neither : s ≡ Neither → (r, b′) ≡ grown b n (bytes "standard input") → (r, b′) ≡ grown b n (sourceText s name)
+  pub source-neither : s ≡ Neither → (r, b′) ≡ grown b n [] → (r, b′) ≡ grown b n (sourceText s name)
   unfolding sourceText
   source-neither e g = rw e g
 

@@ -1,6 +1,6 @@
 -- What a program of the desk reads, how its run ended, and the line that it writes on standard error of a run that is not complete.
 -- Assumes nothing.
-use Prim.Native.Nat.{ℕ, suc}
+use Prim.Native.Nat.{ℕ}
 use mathlib.Core.Bool.{Bool, true, false, cond}
 use mathlib.Core.List.{List, [], _∷_, _++_}
 use lib.Dec.{eqb, ltb}
@@ -44,14 +44,14 @@ sourceOf count name = cond (ltb count 2) Input (cond (ltb 2 count) Neither (name
 
 -- ---- what is said
 
--- a byte as it is shown in a line: `?` (63) for one that is no sign
+-- a byte as it is shown in a line: `?` (63) for one under 32 and for 127, so that the line stays one
 unfoldable pub shown : ℕ → ℕ
 shown c = cond (ltb c 32) 63 (cond (eqb c 127) 63 c)
 
 -- what was read, as it is named in a line
 unfoldable pub sourceText : Source → List ℕ → List ℕ
 sourceText Input name = bytes "standard input"
-sourceText Neither name = bytes "standard input"
+sourceText Neither name = []
 sourceText File name = bytes "'" ++ name ++ bytes "'"
 
 -- a line of something that could not be done: of what, and what it was

@@ -8,7 +8,7 @@ ghost use Rattle.endings.specs.Ending.{isGoing, afterWrite, sourceOf, so
 ghost use Rattle.endings.specs.Ending.{shown as Ending·shown};
 
 // How a run stands: it goes on, it came to its input's end, or why it did not: it was called wrongly, its input could not
-// be opened or not be read, or its output could not be written.
+// be opened or not be read, or its output could not be written. A total that could not be written makes it unwritten too.
 pub enum Ending {
     Going,
     Complete,
@@ -96,7 +96,7 @@ fn put_source(out: &mut [u8], n: usize, source: Source, name: &[u8]) -> usize
 {
     match source {
         Source::Input => buffer::append(out, n, b"standard input"),
-        Source::Neither => buffer::append(out, n, b"standard input"),
+        Source::Neither => buffer::append(out, n, b""),
         Source::File => {
             let n = buffer::append(out, n, b"'");
             let n = buffer::append(out, n, name);
@@ -113,7 +113,7 @@ fn put_start(out: &mut [u8], program: &[u8]) -> usize
     buffer::append(out, n, b": incomplete: ")
 }
 
-fn put_unread(out: &mut [u8], program: &[u8], source: Source, name: &[u8], what: &[u8]) -> usize
+fn put_failure(out: &mut [u8], program: &[u8], source: Source, name: &[u8], what: &[u8]) -> usize
     ensures { λ r. ⌜ (r, now (out .exit)) ≡ grown (now (out .entry)) 0 (failureText (now (program .entry)) (sourceText source (now (name .entry))) (now (what .entry))) ⌝ }
 {
     let n = put_start(out, program);
@@ -148,11 +148,11 @@ pub fn complaint(
     ensures { λ r. ⌜ (r, now (out .exit)) ≡ grown (now (out .entry)) 0 (complaintText (now (program .entry)) source (now (name .entry)) ending) ⌝ }
 {
     match ending {
-        Ending::Going => put_unread(out, program, source, name, b" could not be read\n"),
+        Ending::Going => put_failure(out, program, source, name, b" could not be read\n"),
         Ending::Complete => buffer::append(out, 0, b""),
         Ending::Misused => put_usage(out, program),
-        Ending::Unopened => put_unread(out, program, source, name, b" could not be opened\n"),
-        Ending::Unread => put_unread(out, program, source, name, b" could not be read\n"),
+        Ending::Unopened => put_failure(out, program, source, name, b" could not be opened\n"),
+        Ending::Unread => put_failure(out, program, source, name, b" could not be read\n"),
         Ending::Unwritten => put_unwritten(out, program),
     }
 }

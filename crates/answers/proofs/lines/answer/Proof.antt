@@ -10,7 +10,7 @@ answer-spec =
     (tie.spec
     (λ c κs. tt)
     (λ c κs. tt)
-    (λ c κs. search (needs, answer-is, rule-writable))
+    (λ c κs. search (needs, rule-writable))
     (λ c κs. tt)
-    (λ c. search (needs, answer-is, rule-writable))
-    (λ c. search (needs, answer-is, rule-writable)))
+    (λ c. search (needs, answer-is))
+    (λ c. search (needs, answer-is)))

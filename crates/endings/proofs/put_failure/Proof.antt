@@ -1,9 +1,9 @@
 use Rattle.endings.proofs.Saying.{line-laws}
-use Rattle.endings.proofs.put_unread.Statement.{statement}
-use Rattle.endings.proofs.put_unread.Tie as tie
+use Rattle.endings.proofs.put_failure.Statement.{statement}
+use Rattle.endings.proofs.put_failure.Tie as tie
 
-pub put-unread-spec : {M : Type 1} → statement M
-put-unread-spec =
+pub put-failure-spec : {M : Type 1} → statement M
+put-failure-spec =
     tie.close
     (tie.spec
     (λ c κs. tt)

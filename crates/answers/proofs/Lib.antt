@@ -3,5 +3,6 @@ pub mod Counting
 pub mod Feeding
 pub mod Turning
 pub mod Fitting
-pub mod Running
+pub mod Resting
 pub mod Totalling
+pub mod Running

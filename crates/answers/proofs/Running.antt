@@ -9,91 +9,23 @@ use native.Mathlib.Omega.{arith}
 use lib.Dec.{eqb}
 use lib.IntN.{ℤ, pos, negsuc}
 use lib.ListN.{length, take, drop, length-append, length-take}
-use lib.Seq.{append-snoc, take-take, take-all, take-append-seam}
-use Rattle.words.specs.Ends.{upTo}
-use Rattle.words.specs.Lines.{linesIn, lines}
+use lib.Seq.{take-take}
 use Rattle.buffer.proofs.Growing.{grown-whole, grown-size, grown-bytes}
 use Rattle.buffer.specs.Buffer.{grown}
 use Rattle.endings.specs.Ending.{isGoing, isComplete, afterWrite}
 use Rattle.endings.specs.declared.Ending.{Ending}
 use Rattle.endings.specs.declared.Ending.the-variants.{Going, Complete, Unread, Unwritten}
-use Rattle.answers.proofs.Counting.{count-again, count-fixed, answers-counted, answers-append, goods-append}
-use Rattle.answers.proofs.Feeding.{cue-alike, ended-append, left-append, Alike, alike}
+use Rattle.answers.proofs.Counting.{count-again, count-fixed, answers-counted}
+use Rattle.answers.proofs.Feeding.{cue-alike, Alike, alike}
 use Rattle.answers.proofs.Fitting.{piece-fits, end-fits, heading-fits}
+use Rattle.answers.proofs.Resting.{rest, rest-none, rest-more, rest-all, open-more}
+use Rattle.answers.proofs.Totalling.{text-total}
 use Rattle.answers.proofs.Turning.{take-clamped}
 use Rattle.answers.specs.Text.{heading}
-use Rattle.answers.specs.Program.{counted, answersText, goods, totals, programText, ended, left, lastOf, endText, openText}
-use Rattle.answers.specs.Run.{Stage, stage, telling, keptIn, endedIn, fed, finished, silent, readBy, afterRead, wrote, told, begun, Event, reading, turned, ran, output, input, metEnd, allDone, Roomy, opened, wholeOutput, Writes, RunWrites}
+use Rattle.answers.specs.Program.{counted, answersText, goods, totals, programText, ended, left, lastOf, endText, openText, totalIn}
+use Rattle.answers.specs.Run.{Stage, stage, telling, keptIn, endedIn, fed, finished, silent, readBy, afterRead, wrote, told, begun, Event, reading, turned, ran, output, input, endBy, metEnd, allDone, endingBy, endingOf, Roomy, opened, wholeOutput, RunWrites}
 use Rattle.answers.specs.declared.lines.State.{State}
 use Rattle.answers.specs.declared.turns.Run.{Run}
-
--- ---- the lines of an input are those that end and the last one
-
-pub lines-are : (s : List ℕ) → (ended [] s ++ lastOf (left [] s) ≡ lines s)
-    × ((x : ℕ) (p : List ℕ) → ended (x ∷ p) s ++ lastOf (left (x ∷ p) s) ≡ ((x ∷ p) ++ upTo 10 s) ∷ linesIn false s)
-unfolding ended left lastOf linesIn upTo
-lines-are [] = (refl, λ x p. ap (λ (l : List ℕ). (x ∷ l) ∷ []) (sym (append-nil p)))
-lines-are (c ∷ cs) = (here (lines-are cs) (eqb c 10), λ x p. there (lines-are cs) x p (eqb c 10))
-  where
-    here : (ended [] cs ++ lastOf (left [] cs) ≡ lines cs)
-        × ((x : ℕ) (p : List ℕ) → ended (x ∷ p) cs ++ lastOf (left (x ∷ p) cs) ≡ ((x ∷ p) ++ upTo 10 cs) ∷ linesIn false cs)
-        → (b : Bool) → cond b ([] ∷ ended [] cs) (ended (c ∷ []) cs) ++ lastOf (cond b (left [] cs) (left (c ∷ []) cs))
-        ≡ cond b [] (c ∷ upTo 10 cs) ∷ linesIn b cs
-    here r true = ap (λ (l : List (List ℕ)). [] ∷ l) (r .0)
-    here r false = r .1 c []
-
-    there : (ended [] cs ++ lastOf (left [] cs) ≡ lines cs)
-        × ((x : ℕ) (p : List ℕ) → ended (x ∷ p) cs ++ lastOf (left (x ∷ p) cs) ≡ ((x ∷ p) ++ upTo 10 cs) ∷ linesIn false cs)
-        → (x : ℕ) (p : List ℕ) (b : Bool)
-        → cond b ((x ∷ p) ∷ ended [] cs) (ended (x ∷ (p ++ (c ∷ []))) cs) ++ lastOf (cond b (left [] cs) (left (x ∷ (p ++ (c ∷ []))) cs))
-        ≡ ((x ∷ p) ++ cond b [] (c ∷ upTo 10 cs)) ∷ linesIn b cs
-    there r x p true = ap (λ (l : List (List ℕ)). (x ∷ p) ∷ l) (r .0) ∙ ap (λ (l : List ℕ). (x ∷ l) ∷ lines cs) (sym (append-nil p))
-    there r x p false = r .1 x (p ++ (c ∷ [])) ∙ ap (λ (l : List ℕ). (x ∷ l) ∷ linesIn false cs) (append-snoc p c (upTo 10 cs))
-
--- ---- what is written from a place on, with the true counts and the whole of an unended line
-
--- behind n lines with k good ones, where q has no end, for the input s
-abbrev rest : ℕ → ℕ → List ℕ → List ℕ → List ℕ
-rest n k q s = answersText n (ended q s) ++ endText (n + length (ended q s)) (k + goods (ended q s)) (left q s)
-
-rest-none : (n k : ℕ) (q : List ℕ) → rest n k q [] ≡ endText n k q
-unfolding ended left answersText goods
-rest-none n k q = rw (add-zero n, add-zero k)
-
-rest-more : (n k : ℕ) (q s t : List ℕ)
-    → rest n k q (s ++ t) ≡ answersText n (ended q s) ++ rest (n + length (ended q s)) (k + goods (ended q s)) (left q s) t
-rest-more n k q s t =
-    let e = ended q s in
-    let f = ended (left q s) t in
-    let a : n + length e + length f ≡ n + length (e ++ f) = rw length-append (omega arith) in
-    let b : k + goods e + goods f ≡ k + goods (e ++ f) = rw goods-append (omega arith) in
-    rw (ended-append q s t, left-append q s t, a, b, answers-append n e f)
-    (append-assoc (answersText n e) (answersText (n + length e) f) (endText (n + length (e ++ f)) (k + goods (e ++ f)) (left (left q s) t)))
-
-rest-all : (s : List ℕ) → heading ++ rest 0 0 [] s ≡ programText s
-unfolding programText endText
-rest-all s =
-    let e = ended [] s in
-    let f = lastOf (left [] s) in
-    let g : 0 + goods e + goods f ≡ goods (e ++ f) = rw goods-append (omega arith) in
-    let h : 0 + length e + length f ≡ length (e ++ f) = rw length-append (omega arith) in
-    ap (λ (t : List ℕ). heading ++ t)
-    (rw (g, h, ← (lines-are s .0), answers-append 0 e f)
-    (sym (append-assoc (answersText 0 e) (answersText (0 + length e) f) (totals (length (e ++ f)) (goods (e ++ f))))))
-
--- the same without the unended line and the total
-open-more : (n : ℕ) (q s t : List ℕ) → answersText n (ended q (s ++ t)) ≡ answersText n (ended q s) ++ answersText (n + length (ended q s)) (ended (left q s) t)
-open-more n q s t = rw (ended-append q s t) (answers-append n (ended q s) (ended (left q s) t))
-
--- whatever comes behind, the text of the whole begins with it
-pub open-front : (s t : List ℕ) → take (length (openText s)) (programText (s ++ t)) ≡ openText s
-unfolding openText
-open-front s t =
-    let a : List ℕ = answersText 0 (ended [] s) in
-    let b : List ℕ = rest (0 + length (ended [] s)) (0 + goods (ended [] s)) (left [] s) t in
-    let e : programText (s ++ t) ≡ (heading ++ a) ++ b =
-    sym (rest-all (s ++ t)) ∙ ap (λ (x : List ℕ). heading ++ x) (rest-more 0 0 [] s t) ∙ sym (append-assoc heading a b) in
-    rw e (take-append-seam (heading ++ a) b)
 
 -- ---- a state stands for the true counts and the true line
 
@@ -200,11 +132,6 @@ unfolding afterWrite isGoing
 after-ended true e h = h
 after-ended false e h = refl
 
-after-short : (done : Bool) (e : Ending) → isComplete e ≡ false → isComplete (afterWrite done e) ≡ false
-unfolding afterWrite isComplete
-after-short true e h = h
-after-short false e h = refl
-
 module _ (e : Event) (g : Stage) (h : isGoing (g .run .ending) ≡ false) where
   ended-reading : reading e g ≡ silent (g .run .ending) (g .run .state) (g .hold) (g .out)
   unfolding afterRead
@@ -221,10 +148,6 @@ module _ (e : Event) (g : Stage) (h : isGoing (g .run .ending) ≡ false) where
   turned-ended : isGoing (turned e g .run .ending) ≡ false
   unfolding wrote
   turned-ended = after-ended (e .done) (reading e g .run .ending) (rw ended-ending h)
-
-  turned-short : isComplete (g .run .ending) ≡ false → isComplete (turned e g .run .ending) ≡ false
-  unfolding wrote
-  turned-short s = after-short (e .done) (reading e g .run .ending) (rw ended-ending s)
 
 idle-output : (es : List Event) (g : Stage) → isGoing (g .run .ending) ≡ false → output es g ≡ []
 idle-output [] g h = refl
@@ -326,68 +249,77 @@ turns-write (e ∷ es) s h o n k q w r =
     step ih (pos (suc j)) true = step-piece es ih s h o n k q w (e .piece) (r .0) (r .1) j
     step ih (pos (suc j)) false = step-unwritten es ih s h o n k q w (e .piece) (r .0) (r .1) j
 
--- ---- when a run is complete
+-- ---- how a run ends
 
-unwritten-over : isGoing Unwritten ≡ false
-unfolding isGoing
-unwritten-over = refl
+cond-same-ending : (b : Bool) (e : Ending) → cond b e e ≡ e
+cond-same-ending true e = refl
+cond-same-ending false e = refl
 
-unwritten-short : isComplete Unwritten ≡ false
-unfolding isComplete
-unwritten-short = refl
-
-complete-over : isGoing Complete ≡ false
-unfolding isGoing
-complete-over = refl
-
-turned-is : (e : Event) (g : Stage) → isGoing (g .run .ending) ≡ false → (d : Bool) → e .done ≡ d → turned e g .run .ending ≡ cond d (g .run .ending) Unwritten
+turned-is : (e : Event) (g : Stage) → isGoing (g .run .ending) ≡ false → turned e g .run .ending ≡ cond (e .done) (g .run .ending) Unwritten
 unfolding wrote afterWrite
-turned-is e g h d f = rw (f, ended-ending e g h)
+turned-is e g h = rw (ended-ending e g h)
 
-short-stays : (es : List Event) (g : Stage) → isGoing (g .run .ending) ≡ false → isComplete (g .run .ending) ≡ false → isComplete (ran es g .run .ending) ≡ false
-short-stays [] g h s = s
-short-stays (e ∷ es) g h s = short-stays es (turned e g) (turned-ended e g h) (turned-short e g h s)
-
-complete-stays : (es : List Event) (g : Stage) → g .run .ending ≡ Complete → isComplete (ran es g .run .ending) ≡ allDone es
-unfolding isComplete
-complete-stays [] g c = rw c
-complete-stays (e ∷ es) g c = go (e .done) refl (λ (f : turned e g .run .ending ≡ Complete). complete-stays es (turned e g) f)
+-- a run that has ended stays so, but for a failed write
+ended-stays : (es : List Event) (g : Stage) → isGoing (g .run .ending) ≡ false → ran es g .run .ending ≡ cond (allDone es) (g .run .ending) Unwritten
+ended-stays [] g h = refl
+ended-stays (e ∷ es) g h =
+    ended-stays es (turned e g) (turned-ended e g h)
+    ∙ ap (λ (x : Ending). cond (allDone es) x Unwritten) (turned-is e g h)
+    ∙ go (e .done)
   where
-    over : isGoing (g .run .ending) ≡ false
-    over = rw c (complete-over)
+    go : (d : Bool) → cond (allDone es) (cond d (g .run .ending) Unwritten) Unwritten ≡ cond (d && allDone es) (g .run .ending) Unwritten
+    go true = refl
+    go false = cond-same-ending (allDone es) Unwritten
 
-    go : (d : Bool) → e .done ≡ d → (turned e g .run .ending ≡ Complete → isComplete (ran es (turned e g) .run .ending) ≡ allDone es)
-        → isComplete (ran es (turned e g) .run .ending) ≡ (d && allDone es)
-    go true f ih = ih (turned-is e g over true f ∙ c)
-    go false f ih = let t = turned-is e g over false f in short-stays es (turned e g) (rw t unwritten-over) (rw t unwritten-short)
+unwritten-stays : (es : List Event) (g : Stage) → g .run .ending ≡ Unwritten → ran es g .run .ending ≡ Unwritten
+unfolding isGoing
+unwritten-stays es g u =
+    let h : isGoing (g .run .ending) ≡ false = ap isGoing u in
+    ended-stays es g h ∙ ap (λ (x : Ending). cond (allDone es) x Unwritten) u ∙ cond-same-ending (allDone es) Unwritten
+
+ending-none : (es : List Event) → endingOf false es ≡ Unwritten
+ending-none [] = refl
+ending-none (e ∷ es) = refl
 
 module _ (es : List Event) (piece : List ℕ) (s : State) (h o : List ℕ)
-    (ih : (s′ : State) (h′ o′ : List ℕ) → isComplete (ran es (going s′ h′ o′) .run .ending) ≡ (metEnd true es && allDone es)) where
-  turn-complete : (z : ℤ) (d : Bool)
-      → isComplete (ran (record { piece = piece; got = z; done = d } ∷ es) (going s h o) .run .ending)
-      ≡ (metEnd true (record { piece = piece; got = z; done = d } ∷ es) && (d && allDone es))
-  unfolding afterRead readBy fed finished silent stage wrote afterWrite isGoing isComplete
-  turn-complete (negsuc j) true =
-      short-stays es (turned (record { piece = piece; got = negsuc j; done = true }) (going s h o)) refl refl
-  turn-complete (negsuc j) false =
-      short-stays es (turned (record { piece = piece; got = negsuc j; done = false }) (going s h o)) refl refl
-  turn-complete (pos zero) true = complete-stays es (turned (record { piece = piece; got = pos 0; done = true }) (going s h o)) refl
-  turn-complete (pos zero) false = short-stays es (turned (record { piece = piece; got = pos 0; done = false }) (going s h o)) refl refl
-  turn-complete (pos (suc j)) true = let f : Stage = fed (take (suc j) piece) s h o in ih (f .run .state) (f .hold) (f .out)
-  turn-complete (pos (suc j)) false =
-      let g : Stage = turned (record { piece = piece; got = pos (suc j); done = false }) (going s h o) in
-      rw (end-none es) (short-stays es g refl refl)
+    (ih : (s′ : State) (h′ o′ : List ℕ) → ran es (going s′ h′ o′) .run .ending ≡ endingOf true es) where
+  turn-ending : (z : ℤ) (d : Bool)
+      → ran (record { piece = piece; got = z; done = d } ∷ es) (going s h o) .run .ending ≡ endingOf true (record { piece = piece; got = z; done = d } ∷ es)
+  unfolding afterRead readBy fed finished silent stage wrote afterWrite isGoing
+  turn-ending (negsuc j) true = ended-stays es (turned (record { piece = piece; got = negsuc j; done = true }) (going s h o)) refl
+  turn-ending (negsuc j) false = unwritten-stays es (turned (record { piece = piece; got = negsuc j; done = false }) (going s h o)) refl
+  turn-ending (pos zero) true = ended-stays es (turned (record { piece = piece; got = pos 0; done = true }) (going s h o)) refl
+  turn-ending (pos zero) false = unwritten-stays es (turned (record { piece = piece; got = pos 0; done = false }) (going s h o)) refl
+  turn-ending (pos (suc j)) true = let f : Stage = fed (take (suc j) piece) s h o in ih (f .run .state) (f .hold) (f .out)
+  turn-ending (pos (suc j)) false =
+      unwritten-stays es (turned (record { piece = piece; got = pos (suc j); done = false }) (going s h o)) refl ∙ sym (ending-none es)
 
-going-complete : (es : List Event) (s : State) (h o : List ℕ) → isComplete (ran es (going s h o) .run .ending) ≡ (metEnd true es && allDone es)
+going-ending : (es : List Event) (s : State) (h o : List ℕ) → ran es (going s h o) .run .ending ≡ endingOf true es
+going-ending [] s h o = refl
+going-ending (e ∷ es) s h o = turn-ending es (e .piece) s h o (λ (s′ : State) (h′ o′ : List ℕ). going-ending es s′ h′ o′) (e .got) (e .done)
+
+-- complete exactly if the end was met and every write took all
+complete-cond : (b : Bool) → isComplete (cond b Complete Unwritten) ≡ b
 unfolding isComplete
-going-complete [] s h o = refl
-going-complete (e ∷ es) s h o = step (λ (s′ : State) (h′ o′ : List ℕ). going-complete es s′ h′ o′) (e .got) (e .done)
+complete-cond true = refl
+complete-cond false = refl
+
+complete-is : (done : Bool) (es : List Event) → isComplete (endingOf done es) ≡ (metEnd done es && (done && allDone es))
+unfolding isComplete
+complete-is true [] = refl
+complete-is false [] = refl
+complete-is false (e ∷ es) = refl
+complete-is true (e ∷ es) = go (e .got) (e .done) (λ (d : Bool). complete-is d es)
   where
-    step : ((s′ : State) (h′ o′ : List ℕ) → isComplete (ran es (going s′ h′ o′) .run .ending) ≡ (metEnd true es && allDone es))
-        → (z : ℤ) (d : Bool)
-        → isComplete (ran (record { piece = e .piece; got = z; done = d } ∷ es) (going s h o) .run .ending)
-        ≡ (metEnd true (record { piece = e .piece; got = z; done = d } ∷ es) && (d && allDone es))
-    step ih z d = turn-complete es (e .piece) s h o ih z d
+    all : (b : Bool) (x : Ending) → isComplete x ≡ false → isComplete (cond b x Unwritten) ≡ false
+    all true x h = h
+    all false x h = refl
+
+    go : (z : ℤ) (d : Bool) → ((c : Bool) → isComplete (endingOf c es) ≡ (metEnd c es && (c && allDone es)))
+        → isComplete (endingBy z (d && allDone es) (endingOf d es)) ≡ (endBy z (metEnd d es) && (d && allDone es))
+    go (negsuc j) d ih = all (d && allDone es) Unread refl
+    go (pos zero) d ih = complete-cond (d && allDone es)
+    go (pos (suc j)) d ih = ih d
 
 -- ---- a whole run
 
@@ -421,10 +353,17 @@ module _ (h o : List ℕ) (es : List Event) where
       let g : Stage = opened false h o in
       rw (idle-output es g refl, input-none es, end-none es) (ap (λ (x : List ℕ). x ++ []) (begun-told o (roomy-end (length o) es r)))
 
-  run-complete : (done : Bool) → isComplete (ran es (opened done h o) .run .ending) ≡ (metEnd done es && (done && allDone es))
-  unfolding wrote afterWrite begun isGoing isComplete
-  run-complete true = going-complete es (start o) h (begun o .1)
-  run-complete false = let g : Stage = opened false h o in rw (end-none es) (short-stays es g refl refl)
+  run-ending : (done : Bool) → ran es (opened done h o) .run .ending ≡ endingOf done es
+  unfolding wrote afterWrite begun
+  run-ending true = going-ending es (start o) h (begun o .1)
+  run-ending false = unwritten-stays es (opened false h o) refl ∙ sym (ending-none es)
 
 pub run-writes : RunWrites
-run-writes done es h o l r = record { text = run-text h o es done l r; complete = run-complete h o es done }
+run-writes done es h o l r =
+    let t = run-text h o es done l r in
+    record {
+      text = t;
+      total = ap (λ (x : List ℕ). totalIn (ended [] x)) t ∙ text-total (metEnd done es) (input done es);
+      ending = run-ending h o es done;
+      complete = complete-is done es;
+    }

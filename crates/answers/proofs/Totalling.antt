@@ -20,9 +20,9 @@ use Rattle.words.specs.Words.{same}
 use Rattle.desk.specs.Cue.{cueRule}
 use Rattle.desk.specs.declared.cue.Cue.{Cue}
 use Rattle.answers.proofs.Feeding.{ended-append, left-append}
-use Rattle.answers.proofs.Running.{open-front}
+use Rattle.answers.proofs.Resting.{open-front}
 use Rattle.answers.specs.Text.{heading, okText, cueText, answerText, totalText}
-use Rattle.answers.specs.Program.{counted, answersText, goods, totals, programText, ended, left, openText, isTotal, totalIn, TotalLast}
+use Rattle.answers.specs.Program.{counted, answersText, goods, totals, programText, ended, left, openText, isTotal, totalIn, lastLine, TotalLast}
 
 -- ---- texts without a line end
 
@@ -174,6 +174,12 @@ body-total : (l k b : ℕ) → isTotal (body l k b) ≡ true
 unfolding isTotal same
 body-total l k b = refl
 
+last-behind : (ls : List (List ℕ)) (l : List ℕ) → lastLine (ls ++ (l ∷ [])) ≡ l
+unfolding lastLine
+last-behind [] l = refl
+last-behind (x ∷ []) l = refl
+last-behind (x ∷ y ∷ ls) l = last-behind (y ∷ ls) l
+
 -- the whole text is what is quiet, and the total with its line end
 module _ (s : List ℕ) where
   abbrev a : List ℕ
@@ -187,13 +193,21 @@ module _ (s : List ℕ) where
   parts =
       sym (append-assoc heading (answersText 0 (lines s)) (t ++ (10 ∷ []))) ∙ sym (append-assoc a t (10 ∷ []))
 
-  whole : totalIn (ended [] (programText s)) ≡ true
+  t-total : isTotal t ≡ true
+  t-total = body-total (counted (length (lines s))) (counted (goods (lines s))) (counted (length (lines s)) - counted (goods (lines s)))
+
+  all-lines : ended [] (programText s) ≡ ended [] a ++ (t ∷ [])
+  all-lines =
+      ap (ended []) (parts ∙ append-assoc a t (10 ∷ []))
+      ∙ ended-behind a (t ++ (10 ∷ [])) (quiet-front (lines s) .clean)
+      ∙ ap (λ (x : List (List ℕ)). ended [] a ++ x) (line-ended t (body-endless _ _ _) .0)
+
+  whole : isTotal (lastLine (ended [] (programText s))) ≡ true
+  whole = ap (λ (x : List (List ℕ)). isTotal (lastLine x)) all-lines ∙ ap isTotal (last-behind (ended [] a) t) ∙ t-total
+
+  some : totalIn (ended [] (programText s)) ≡ true
   unfolding totalIn
-  whole =
-      let q = quiet-front (lines s) in
-      let l = line-ended t (body-endless _ _ _) in
-      let e : ended [] (programText s) ≡ ended [] a ++ (t ∷ []) = ap (ended []) (parts ∙ append-assoc a t (10 ∷ [])) ∙ ended-behind a (t ++ (10 ∷ [])) (q .clean) ∙ ap (λ (x : List (List ℕ)). ended [] a ++ x) (l .0) in
-      rw (e, total-append (ended [] a) (t ∷ []), q .lines, body-total (counted (length (lines s))) (counted (goods (lines s))) (counted (length (lines s)) - counted (goods (lines s))))
+  some = rw (all-lines, total-append (ended [] a) (t ∷ []), quiet-front (lines s) .lines, t-total)
 
   -- without the last line end no total has ended
   unended : totalIn (ended [] (a ++ t)) ≡ false
@@ -220,6 +234,11 @@ module _ (s : List ℕ) where
 unmet : (s : List ℕ) → totalIn (ended [] (openText s)) ≡ false
 unfolding openText
 unmet s = quiet-front (ended [] s) .lines
+
+-- a total is in the one text and not in the other
+pub text-total : (b : Bool) (s : List ℕ) → totalIn (ended [] (cond b (programText s) (openText s))) ≡ b
+text-total true s = some s
+text-total false s = unmet s
 
 pub total-last : TotalLast
 total-last = record { whole = whole; shorter = shorter; unmet = unmet; front = open-front }

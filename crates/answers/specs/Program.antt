@@ -74,10 +74,16 @@ unfoldable pub totalIn : List (List ℕ) → Bool
 totalIn [] = false
 totalIn (l ∷ ls) = isTotal l || totalIn ls
 
+-- the last of some lines; the empty text where there is none
+unfoldable pub lastLine : List (List ℕ) → List ℕ
+lastLine [] = []
+lastLine (l ∷ []) = l
+lastLine (l ∷ m ∷ ls) = lastLine (m ∷ ls)
+
 -- the last line that ended begins with `total` in the whole text, and no line that ended does in any shorter front of it, nor in what is
 -- written of an input whose end was not met
 pub record TotalLast : Type 0 where
-  pub whole : (input : List ℕ) → totalIn (ended [] (programText input)) ≡ true
+  pub whole : (input : List ℕ) → isTotal (lastLine (ended [] (programText input))) ≡ true
   pub shorter : (input : List ℕ) (n : ℕ) → n < length (programText input) → totalIn (ended [] (take n (programText input))) ≡ false
   pub unmet : (input : List ℕ) → totalIn (ended [] (openText input)) ≡ false
   -- whatever comes behind it, the text of the whole begins with what is written of a part

@@ -9,9 +9,9 @@ use lib.ListN.{length, take}
 use Rattle.buffer.specs.Buffer.{grown}
 use Rattle.endings.specs.Ending.{isGoing, isComplete, afterWrite}
 use Rattle.endings.specs.declared.Ending.{Ending}
-use Rattle.endings.specs.declared.Ending.the-variants.{Going, Complete, Unread}
+use Rattle.endings.specs.declared.Ending.the-variants.{Going, Complete, Unread, Unwritten}
 use Rattle.answers.specs.Text.{heading}
-use Rattle.answers.specs.Program.{counted, goods, answersText, endText, ended, programText, openText}
+use Rattle.answers.specs.Program.{counted, goods, answersText, endText, ended, programText, openText, totalIn}
 use Rattle.answers.specs.declared.lines.State.{State}
 use Rattle.answers.specs.declared.turns.Run.{Run}
 
@@ -72,7 +72,7 @@ readBy (negsuc k) piece s h o = silent Unread s h o
 readBy (pos zero) piece s h o = finished s h o
 readBy (pos (suc k)) piece s h o = fed (take (suc k) piece) s h o
 
--- a run that has ended reads no more
+-- a run that has ended takes nothing more in
 unfoldable pub afterRead : ℤ → List ℕ → Run → List ℕ → List ℕ → Stage
 afterRead got piece r h o = cond (isGoing (r .ending)) (readBy got piece (r .state) h o) (silent (r .ending) (r .state) h o)
 
@@ -140,6 +140,16 @@ abbrev pub allDone : List Event → Bool
 allDone [] = true
 allDone (e ∷ es) = e .done && allDone es
 
+-- how the run ends: a failed write ends it whatever came before, else the input's end or a failed read does, and else it goes on
+abbrev pub endingBy : ℤ → Bool → Ending → Ending
+endingBy (negsuc k) all more = cond all Unread Unwritten
+endingBy (pos zero) all more = cond all Complete Unwritten
+endingBy (pos (suc k)) all more = more
+
+abbrev pub endingOf : Bool → List Event → Ending
+endingOf done [] = cond done Going Unwritten
+endingOf done (e ∷ es) = cond done (endingBy (e .got) (e .done && allDone es) (endingOf (e .done) es)) Unwritten
+
 -- an answer has at most 36 bytes: 20 digits of a counter, ` ok 64 128 -960` and a line end; the end 116: an answer, and the total's words
 -- with three counters
 abbrev pub answerRoom : ℕ
@@ -161,10 +171,12 @@ abbrev pub wholeOutput : Bool → List Event → List ℕ → List ℕ → List 
 wholeOutput done es h o = take (begun o .0 .state .out) (begun o .1) ++ output es (opened done h o)
 
 -- What it is told to write is the program's text of what was read: whole if the input's end was met, else without the unended line's answer
--- and the total. It is complete exactly if the end was met and every write took all.
+-- and the total. It ends as the turns tell, and is complete exactly if the end was met and every write took all.
 pub record Writes (done : Bool) (es : List Event) (h o : List ℕ) : Type 0 where
   pub text : wholeOutput done es h o ≡ cond (metEnd done es) (programText (input done es)) (openText (input done es))
-  pub complete : isComplete (ran es (opened done h o) .run .ending) ≡ (metEnd done es && (done && allDone es))
+  pub total : totalIn (ended [] (wholeOutput done es h o)) ≡ metEnd done es
+  pub ending : ran es (opened done h o) .run .ending ≡ endingOf done es
+  pub complete : isComplete (endingOf done es) ≡ (metEnd done es && (done && allDone es))
 
 -- so it is however the input is cut into pieces, whatever a failed read left, and however the run ends
 abbrev pub RunWrites : Type 0

@@ -3,7 +3,8 @@ use answers::Run;
 use endings::Ending;
 use endings::Source;
 use strlib::StrPtr;
-ghost use Rattle.cue_answers.specs.Loop.{Room, Written, Turned, AllTurns, Whole, OfFile};
+ghost use lib.ListN.{length};
+ghost use Rattle.cue_answers.specs.Loop.{Room, Tried, Turned, AllTurns, Answering, OfFile};
 
 // Bytes that are read at a time, and room for the answers to them, 36 bytes for each. Together with the line that is held
 // they take less than 192 KB of stack.
@@ -13,7 +14,7 @@ const OUT: usize = 36 * PIECE;
 
 // Writes what a run is told to write.
 fn write_told(out: &[u8], run: Run) -> Run
-    ensures { λ r. ⌜ Written run r ⌝ }
+    ensures { λ r. ⌜ Tried run r ⌝ }
 {
     let state = run.state;
     let done = desk_io::write(1, strlib::text(out, StrPtr::full(0, state.out)));
@@ -33,7 +34,7 @@ fn turn(fd: i32, piece: &mut [u8], hold: &mut [u8; 65537], out: &mut [u8], run: 
 // Turn after turn, until the run has ended. The turns count down from a number that no input uses up.
 fn all_turns(fd: i32, piece: &mut [u8], hold: &mut [u8; 65537], out: &mut [u8], run: Run) -> Run
     requires { ⌜ Room (now piece) (now out) ⌝ }
-    ensures { λ r. ⌜ AllTurns run (now (hold .entry)) (now (out .entry)) r (now (hold .exit)) (now (out .exit)) ⌝ }
+    ensures { λ r. ⌜ AllTurns run (length (now (piece .entry))) (now (hold .entry)) (now (out .entry)) r (now (hold .exit)) (now (out .exit)) ⌝ }
 {
     let mut r = run;
     let mut turns: u64 = 18446744073709551615;
@@ -51,7 +52,7 @@ fn all_turns(fd: i32, piece: &mut [u8], hold: &mut [u8; 65537], out: &mut [u8], 
 
 // Answers a whole input, and says how the run ended.
 fn answer_all(fd: i32, out: &mut [u8; OUT]) -> Ending
-    ensures { λ r. ⌜ Whole (now (out .entry)) r (now (out .exit)) ⌝ }
+    ensures { λ r. ⌜ Answering (now (out .entry)) r (now (out .exit)) ⌝ }
 {
     let mut piece = [0u8; PIECE];
     let mut hold = [0u8; 65537];

@@ -1,4 +1,4 @@
-use Rattle.cue_answers.proofs.Looping.{whole-laws}
+use Rattle.cue_answers.proofs.Looping.{answer-laws}
 use Rattle.cue_answers.proofs.answer_all.Statement.{statement}
 use Rattle.cue_answers.proofs.answer_all.Tie as tie
 
@@ -6,8 +6,8 @@ pub answer-all-spec : {M : Type 1} → statement M
 answer-all-spec =
     tie.close
     (tie.spec
-    (λ c κs. search whole-laws)
-    (λ c κs. search whole-laws)
-    (λ c. search whole-laws)
-    (λ c κs. search whole-laws)
-    (λ c. search whole-laws))
+    (λ c κs. search answer-laws)
+    (λ c κs. search answer-laws)
+    (λ c. search answer-laws)
+    (λ c κs. search answer-laws)
+    (λ c. search answer-laws))

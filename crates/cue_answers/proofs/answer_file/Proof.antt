@@ -1,4 +1,4 @@
-use Rattle.cue_answers.proofs.Looping.{whole-laws}
+use Rattle.cue_answers.proofs.Looping.{answer-laws}
 use Rattle.cue_answers.proofs.answer_file.Statement.{statement}
 use Rattle.cue_answers.proofs.answer_file.Tie as tie
 
@@ -7,6 +7,6 @@ answer-file-spec =
     tie.close
     (tie.spec
     (λ c κs. tt)
-    (λ c. search whole-laws)
+    (λ c. search answer-laws)
     (λ c κs. tt)
-    (λ c. search whole-laws))
+    (λ c. search answer-laws))

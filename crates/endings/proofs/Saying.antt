@@ -11,11 +11,9 @@ use lib.Seq.{drop-cons, take-suc, take-all, set-at, getD-at, append-snoc}
 use Rattle.strlib.specs.Quoted.{bytes}
 use Rattle.buffer.proofs.Growing.{grow-more}
 use Rattle.buffer.specs.Buffer.{grown}
-use Rattle.endings.specs.Ending.{shown, sourceText, failureText, unread, unopened, unwritten, usageText, complaintText}
+use Rattle.endings.specs.Ending.{shown, sourceText, failureText, usageText, complaintText}
 use Rattle.endings.specs.declared.Ending.{Ending}
-use Rattle.endings.specs.declared.Ending.the-variants.{Going, Complete, Misused, Unopened, Unread, Unwritten}
 use Rattle.endings.specs.declared.Source.{Source}
-use Rattle.endings.specs.declared.Source.the-variants.{Input, File, Neither}
 
 -- ---- a name
 
@@ -67,47 +65,14 @@ pub usage-is : (b b1 b2 b3 : List ℕ) (n1 n2 n3 : ℕ) (program : List ℕ) →
 unfolding usageText
 usage-is b b1 b2 b3 n1 n2 n3 program p q u = grow-more b 0 b2 n2 b3 n3 _ _ (grow-more b 0 b1 n1 b2 n2 _ _ p q) u
 
-module _ (b b′ : List ℕ) (n r : ℕ) (name : List ℕ) (s : Source) where
-  pub source-input : s ≡ Input → (r, b′) ≡ grown b n (bytes "standard input") → (r, b′) ≡ grown b n (sourceText s name)
-  unfolding sourceText
-  source-input e g = rw e g
+-- what is said is told apart by its case
+pub names : (b b′ : List ℕ) (n r : ℕ) (name : List ℕ) (s t : Source) → s ≡ t → (r, b′) ≡ grown b n (sourceText t name) → (r, b′) ≡ grown b n (sourceText s name)
+names b b′ n r name s t e g = rw e g
 
-  pub source-neither : s ≡ Neither → (r, b′) ≡ grown b n [] → (r, b′) ≡ grown b n (sourceText s name)
-  unfolding sourceText
-  source-neither e g = rw e g
-
-  pub source-file : (b1 b2 : List ℕ) (n1 n2 : ℕ) → s ≡ File → (n1, b1) ≡ grown b n (bytes "'") → (n2, b2) ≡ grown b1 n1 name → (r, b′) ≡ grown b2 n2 (bytes "'")
-      → (r, b′) ≡ grown b n (sourceText s name)
-  unfolding sourceText
-  source-file b1 b2 n1 n2 e p q u = rw e (grow-more b n b2 n2 b′ r _ _ (grow-more b n b1 n1 b2 n2 _ _ p q) u)
+pub says : (b b′ : List ℕ) (r : ℕ) (program name : List ℕ) (s : Source) (e f : Ending) → e ≡ f → (r, b′) ≡ grown b 0 (complaintText program s name f)
+    → (r, b′) ≡ grown b 0 (complaintText program s name e)
+says b b′ r program name s e f p g = rw p g
 
 pub ruleset line-laws = (needs, grow-more, failure-is, usage-is)
 
-pub ruleset source-texts = (needs, source-input, source-neither, source-file)
-
-module _ (b b′ : List ℕ) (r : ℕ) (program name : List ℕ) (s : Source) (e : Ending) where
-  pub says-going : e ≡ Going → (r, b′) ≡ grown b 0 (failureText program (sourceText s name) unread) → (r, b′) ≡ grown b 0 (complaintText program s name e)
-  unfolding complaintText
-  says-going p g = rw p g
-
-  pub says-nothing : e ≡ Complete → (r, b′) ≡ grown b 0 [] → (r, b′) ≡ grown b 0 (complaintText program s name e)
-  unfolding complaintText
-  says-nothing p g = rw p g
-
-  pub says-usage : e ≡ Misused → (r, b′) ≡ grown b 0 (usageText program) → (r, b′) ≡ grown b 0 (complaintText program s name e)
-  unfolding complaintText
-  says-usage p g = rw p g
-
-  pub says-unopened : e ≡ Unopened → (r, b′) ≡ grown b 0 (failureText program (sourceText s name) unopened) → (r, b′) ≡ grown b 0 (complaintText program s name e)
-  unfolding complaintText
-  says-unopened p g = rw p g
-
-  pub says-unread : e ≡ Unread → (r, b′) ≡ grown b 0 (failureText program (sourceText s name) unread) → (r, b′) ≡ grown b 0 (complaintText program s name e)
-  unfolding complaintText
-  says-unread p g = rw p g
-
-  pub says-unwritten : e ≡ Unwritten → (r, b′) ≡ grown b 0 (failureText program (bytes "standard output") unwritten) → (r, b′) ≡ grown b 0 (complaintText program s name e)
-  unfolding complaintText
-  says-unwritten p g = rw p g
-
-pub ruleset says-laws = (needs, says-going, says-nothing, says-usage, says-unopened, says-unread, says-unwritten)
+pub ruleset says-laws = (needs, grow-more, names, says)

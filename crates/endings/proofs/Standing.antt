@@ -12,46 +12,26 @@ use lib.ListN.{length, getD, set, take, drop, length-take, length-set}
 use lib.Seq.{drop-cons, take-suc, take-all, set-at}
 use Rattle.endings.specs.Ending.{isGoing, afterWrite, namedBy, sourceOf, shown}
 use Rattle.endings.specs.declared.Ending.{Ending}
-use Rattle.endings.specs.declared.Ending.the-variants.{Going, Complete, Misused, Unopened, Unread, Unwritten}
+use Rattle.endings.specs.declared.Ending.the-variants.{Unwritten}
 use Rattle.endings.specs.declared.Source.{Source}
 use Rattle.endings.specs.declared.Source.the-variants.{Input, File, Neither}
 
 -- ---- how a run stands
 
-module _ (e : Ending) where
-  pub going : e ≡ Going → true ≡ isGoing e
-  unfolding isGoing
-  going p = rw p
+-- an ending is told apart by its case
+pub stands : (e f : Ending) (b : Bool) → e ≡ f → b ≡ isGoing f → b ≡ isGoing e
+stands e f b p h = rw p h
 
-  pub not-complete : e ≡ Complete → false ≡ isGoing e
-  unfolding isGoing
-  not-complete p = rw p
-
-  pub not-misused : e ≡ Misused → false ≡ isGoing e
-  unfolding isGoing
-  not-misused p = rw p
-
-  pub not-unopened : e ≡ Unopened → false ≡ isGoing e
-  unfolding isGoing
-  not-unopened p = rw p
-
-  pub not-unread : e ≡ Unread → false ≡ isGoing e
-  unfolding isGoing
-  not-unread p = rw p
-
-  pub not-unwritten : e ≡ Unwritten → false ≡ isGoing e
-  unfolding isGoing
-  not-unwritten p = rw p
-
-  pub wrote-all : (done : Bool) → done ≡ true → e ≡ afterWrite done e
+module _ (e : Ending) (done : Bool) where
+  pub wrote-all : done ≡ true → e ≡ afterWrite done e
   unfolding afterWrite
-  wrote-all done p = rw p
+  wrote-all p = rw p
 
-  pub wrote-not : (done : Bool) → done ≡ false → Unwritten ≡ afterWrite done e
+  pub wrote-not : done ≡ false → Unwritten ≡ afterWrite done e
   unfolding afterWrite
-  wrote-not done p = rw p
+  wrote-not p = rw p
 
-pub ruleset standing = (needs, going, not-complete, not-misused, not-unopened, not-unread, not-unwritten, wrote-all, wrote-not)
+pub ruleset standing = (needs, stands, wrote-all, wrote-not)
 
 -- ---- what is read
 

@@ -1,8 +1,10 @@
+use Rattle.endings.specs.Ending.{complaintText}
 use Rattle.endings.proofs.Saying.{says-laws}
 use Rattle.endings.proofs.complaint.Statement.{statement}
 use Rattle.endings.proofs.complaint.Tie as tie
 
 pub complaint-spec : {M : Type 1} → statement M
+unfolding complaintText
 complaint-spec =
     tie.close
     (tie.spec

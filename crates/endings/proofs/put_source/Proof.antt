@@ -1,26 +1,28 @@
-use Rattle.endings.proofs.Saying.{source-texts}
+use Rattle.endings.specs.Ending.{sourceText}
+use Rattle.endings.proofs.Saying.{says-laws}
 use Rattle.endings.proofs.put_source.Statement.{statement}
 use Rattle.endings.proofs.put_source.Tie as tie
 
 pub put-source-spec : {M : Type 1} → statement M
+unfolding sourceText
 put-source-spec =
     tie.close
     (tie.spec
-    (λ c. search source-texts)
-    (λ c. search source-texts)
+    (λ c. search says-laws)
+    (λ c. search says-laws)
     (λ c κs. tt)
-    (λ c. search source-texts)
-    (λ c. search source-texts)
+    (λ c. search says-laws)
+    (λ c. search says-laws)
     (λ c κs. tt)
-    (λ c. search source-texts)
-    (λ c. search source-texts)
+    (λ c. search says-laws)
+    (λ c. search says-laws)
     (λ c κs. tt)
     (λ c κs. tt)
-    (λ c. search source-texts)
+    (λ c. search says-laws)
     (λ c κs. tt)
-    (λ c. search source-texts)
-    (λ c. search source-texts)
-    (λ c. search source-texts)
-    (λ c. search source-texts)
-    (λ c. search source-texts)
-    (λ c. search source-texts))
+    (λ c. search says-laws)
+    (λ c. search says-laws)
+    (λ c. search says-laws)
+    (λ c. search says-laws)
+    (λ c. search says-laws)
+    (λ c. search says-laws))

@@ -7,7 +7,7 @@ ghost use lib.ListN.{length};
 ghost use Rattle.cue_answers.specs.Loop.{Room, Tried, Turned, AllTurns, Answering, OfFile};
 
 // Bytes that are read at a time, and room for the answers to them, 36 bytes for each. Together with the line that is held
-// they take less than 192 KB of stack.
+// they take some 180,000 bytes of stack.
 const PIECE: usize = 3072;
 
 const OUT: usize = 36 * PIECE;

@@ -1,14 +1,13 @@
 -- The run: pieces one behind the other write what the whole writes, since lines that end in pieces are the lines of the whole, and the
 -- counters and the bytes held stand for the true ones; a run that has ended writes nothing more. Assumes nothing.
 use mathlib.Core.Path.{_≡_, refl, sym, ap, _∙_}
-use mathlib.Core.Bool.{Bool, true, false, cond, _&&_, _||_}
+use mathlib.Core.Bool.{Bool, true, false, cond, _&&_}
 use mathlib.Core.List.{List, [], _∷_, _++_, append-assoc, append-nil}
 use Prim.Native.Nat.{ℕ, zero, suc, _+_, _*_, _≤_, _<_, min}
-use native.Mathlib.Nat.{add-zero}
 use native.Mathlib.Omega.{arith}
 use lib.Dec.{eqb}
 use lib.IntN.{ℤ, pos, negsuc}
-use lib.ListN.{length, take, drop, length-append, length-take}
+use lib.ListN.{length, take, length-take}
 use lib.Seq.{take-take}
 use Rattle.buffer.proofs.Growing.{grown-whole, grown-size, grown-bytes}
 use Rattle.buffer.specs.Buffer.{grown}
@@ -25,7 +24,6 @@ use Rattle.answers.specs.Text.{heading}
 use Rattle.answers.specs.Program.{counted, answersText, goods, totals, programText, ended, left, lastOf, endText, openText, totalIn}
 use Rattle.answers.specs.Run.{Stage, stage, telling, keptIn, endedIn, fed, finished, silent, readBy, afterRead, wrote, told, begun, Event, reading, turned, ran, output, input, endBy, metEnd, allDone, endingBy, endingOf, Roomy, opened, wholeOutput, RunWrites}
 use Rattle.answers.specs.declared.lines.State.{State}
-use Rattle.answers.specs.declared.turns.Run.{Run}
 
 -- ---- a state stands for the true counts and the true line
 

@@ -1,7 +1,7 @@
 -- Laws of a turn: what a read answered is taken apart as the rule does. Assumes nothing.
 use mathlib.Core.Path.{_≡_, refl, sym, ap, _∙_}
-use mathlib.Core.Bool.{Bool, true, false, cond, true≢false}
-use mathlib.Core.List.{List, [], _∷_, _++_, append-nil}
+use mathlib.Core.Bool.{Bool, true, false, true≢false}
+use mathlib.Core.List.{List, [], _∷_, append-nil}
 use Prim.Native.Nat.{ℕ, zero, suc, _+_, _-_, _≤_, _<_, min}
 use native.Mathlib.Nat.{add-zero}
 use native.Mathlib.Omega.{arith}
@@ -15,7 +15,6 @@ use mir.Syntax.{w64}
 use mir.Val.{Fits, SFits, toZ, ofZ}
 use mir.Facts.{toZ-ofZ}
 use Rattle.strlib.proofs.Pointing.{either, text-front}
-use Rattle.strlib.proofs.Storing.{take-min}
 use Rattle.strlib.specs.Pointer.{pointer, textOf}
 use Rattle.strlib.specs.declared.StrPtr.{StrPtr}
 use Rattle.io.specs.Counts.{clamped}

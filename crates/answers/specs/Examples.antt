@@ -1,8 +1,8 @@
 -- 01's three lines and the text that the program writes for them, as one claim on the definitions. Assumes nothing.
 use mathlib.Core.Path.{_≡_, refl}
 use mathlib.Core.List.{List, [], _∷_, _++_}
-use Prim.Native.Nat.{ℕ, _+_, min}
-use lib.IntN.{pos, negsuc}
+use Prim.Native.Nat.{ℕ, _+_}
+use lib.IntN.{negsuc}
 use Rattle.number.specs.Limits.{inRange}
 use Rattle.number.specs.Text.{unblanked, minus, unsigned, isDigit, areDigits, isNumber, value, signed, numberOf}
 use Rattle.number.specs.Written.{digitsIn, digits, sign, written}

@@ -1,6 +1,6 @@
 -- Laws of a text that grows in a buffer: byte by byte, and text behind text. Assumes nothing.
 use mathlib.Core.Path.{_≡_, refl, sym, ap, _∙_}
-use mathlib.Core.List.{List, [], _∷_, _++_, append-assoc, append-nil}
+use mathlib.Core.List.{List, [], _∷_, _++_, append-nil}
 use Prim.Native.Nat.{ℕ, zero, suc, _+_, _-_, _≤_, _<_, min}
 use native.Mathlib.Numerals.{add-one}
 use native.Mathlib.Omega.{arith}
@@ -8,7 +8,7 @@ use borrow.Author.Needs.{needs}
 use lib.ListN.{length, getD, set, take, drop, length-take, length-append}
 use lib.Seq.{take-all, take-suc, take-at, take-nil}
 use Rattle.strlib.proofs.Pointing.{either}
-use Rattle.strlib.proofs.Storing.{put-none, put-length, put-put, put-more, take-min, take-append}
+use Rattle.strlib.proofs.Storing.{put-none, put-length, put-put, put-more, take-append}
 use Rattle.strlib.specs.Store.{put}
 use Rattle.buffer.specs.Buffer.{grown}
 

@@ -1,6 +1,6 @@
 -- The text of a number is what `number` writes into 12 bytes, which are room enough, so that only the range is left to refuse. Assumes nothing.
 use mathlib.Core.Path.{_≡_, refl, sym, ap, _∙_}
-use mathlib.Core.Bool.{Bool, true, false, cond}
+use mathlib.Core.Bool.{true, false}
 use mathlib.Core.List.{List, []}
 use Prim.Native.Nat.{ℕ, suc, _≤_}
 use native.Mathlib.Omega.{arith}
@@ -10,7 +10,7 @@ use lib.IntN.{ℤ, pos, negsuc}
 use lib.ListN.{length}
 use Rattle.strlib.proofs.Pointing.{is-good}
 use Rattle.strlib.proofs.Refusing.{bool-case}
-use Rattle.strlib.specs.Pointer.{pointer, storeFits, goodIn, sized, textOf}
+use Rattle.strlib.specs.Pointer.{pointer, storeFits, sized, textOf}
 use Rattle.strlib.specs.Refusal.{Outcome, refused, gives, answered}
 use Rattle.strlib.specs.declared.StrPtr.{StrPtr}
 use Rattle.strlib.specs.declared.StrAnswer.{StrAnswer}

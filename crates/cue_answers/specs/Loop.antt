@@ -5,7 +5,6 @@ use Prim.Native.Nat.{ℕ, _+_, _*_, _≤_}
 use mathlib.Core.Path.{_≡_}
 use mathlib.Core.Bool.{Bool, true}
 use mathlib.Core.List.{List, [], _∷_}
-use lib.IntN.{ℤ}
 use lib.ListN.{length}
 use Rattle.libc.specs.Io.{Moved}
 use Rattle.endings.specs.Ending.{isGoing}

@@ -1,19 +1,15 @@
 -- Laws of what is read and of how a run stands, case by case as the code tells them apart. Assumes nothing.
-use mathlib.Core.Path.{_≡_, refl, sym, ap, _∙_}
-use mathlib.Core.Bool.{Bool, true, false, cond}
-use mathlib.Core.List.{List, [], _∷_, _++_, map}
-use Prim.Native.Nat.{ℕ, zero, suc, _+_, _≤_, _<_}
-use native.Mathlib.Numerals.{add-one}
+use mathlib.Core.Path.{_≡_, refl}
+use mathlib.Core.Bool.{Bool, true, false}
+use mathlib.Core.List.{List, [], _∷_}
+use Prim.Native.Nat.{ℕ, _≤_, _<_}
 use native.Mathlib.Omega.{arith}
 use borrow.Author.Needs.{needs}
 use borrow.Author.Tests.{lt-ltb, le-ltb, eq-eqb, ne-eqb}
-use lib.Dec.{ltb, eqb}
-use lib.ListN.{length, getD, set, take, drop, length-take, length-set}
-use lib.Seq.{drop-cons, take-suc, take-all, set-at}
-use Rattle.endings.specs.Ending.{isGoing, afterWrite, namedBy, sourceOf, shown}
+use lib.ListN.{length, getD}
+use Rattle.endings.specs.Ending.{isGoing, afterWrite, namedBy, sourceOf}
 use Rattle.endings.specs.declared.Ending.{Ending}
 use Rattle.endings.specs.declared.Ending.the-variants.{Unwritten}
-use Rattle.endings.specs.declared.Source.{Source}
 use Rattle.endings.specs.declared.Source.the-variants.{Input, File, Neither}
 
 -- ---- how a run stands

@@ -2,7 +2,10 @@ pub mod Prefixes
 pub mod Reaching
 pub mod Noting
 pub mod Numbering
+pub mod Early
+pub mod Reading
 pub mod Searching
+pub mod Examples
 pub mod Targeting
 pub mod Rowing
 pub mod Writing

@@ -1,5 +1,5 @@
 -- The run over words that hold the rows of a list finds what the plain search finds: after each character the note is the plain search's
--- answer for what was read, and a stop changes nothing for any continuation. Assumes nothing.
+-- answer for what was read, and a stop changes nothing for any continuation. The number read is that of the run over the nodes. Assumes nothing.
 use Prim.Native.Nat.{ℕ, zero, suc, _+_, _≤_, _<_}
 use mathlib.Core.Path.{_≡_, refl, sym, ap, _∙_}
 use mathlib.Core.Bool.{true}
@@ -17,9 +17,11 @@ use Rattle.table.proofs.Walking.{enter-pos, step-pos, walk-stop}
 use Rattle.table.specs.Run.{Walk, rests, noted, enter, step, walk, runOver}
 use Rattle.states.specs.Node.{Node, stop, at, reach, nextNode, noteAt, nodeNote}
 use Rattle.states.specs.State.{total, stateOf, IsNode, Represents}
+use Rattle.states.specs.Reads.{RunReads}
 use Rattle.states.proofs.Prefixes.{length-snoc}
 use Rattle.states.proofs.Reaching.{reach-step, reach-live, reach-length, live-child, stopped}
 use Rattle.states.proofs.Noting.{renoted, note-length, note-count, note-reach, search-start, search-snoc}
+use Rattle.states.proofs.Reading.{readFrom, readOver, reads-over}
 use Rattle.states.proofs.Numbering.{state-lt, state-pos}
 
 -- a node stands for the text t: it is a stop like t's, or it goes on as t does. The start stands for [], for an empty list too
@@ -49,11 +51,10 @@ ok-lt : (ss : List (List ℕ)) (nd : Node) (n : ℕ) → Ok ss nd n → stateOf 
 ok-lt ss stop n h = omega arith
 ok-lt ss (at v) n h = state-lt ss v (h .0)
 
--- a run rests with the answer r
-pub record Answers (w : Walk) (r : Result) : Type 0 where
+-- a run rests with n characters read and the answer r
+pub record Answers (w : Walk) (n : ℕ) (r : Result) : Type 0 where
   pub state : ℕ
-  pub read : ℕ
-  pub is : w ≡ rests state read r
+  pub is : w ≡ rests state n r
 
 module _ (ss : List (List ℕ)) (ws : List ℕ) (table : Represents ss ws) (few : length ss ≤ 32) where
   -- on entering a node's state its string is noted
@@ -78,38 +79,38 @@ module _ (ss : List (List ℕ)) (ws : List ℕ) (table : Represents ss ws) (few 
 
   -- a run that stands where t led rests with the search's answer for t ++ h
   walk-node : (h t : List ℕ) (nd : Node) → Stands ss t nd → Ok ss nd (length t) → characters h ≡ true
-      → Answers (walk ws (total ss + 2) h (rests (stateOf ss nd) (length t) (plainSearch ss t))) (plainSearch ss (t ++ h))
+      → Answers (walk ws (total ss + 2) h (rests (stateOf ss nd) (length t) (plainSearch ss t))) (readFrom ss h nd (length t)) (plainSearch ss (t ++ h))
   unfolding walk step characters all
-  walk-node [] t nd e k s = record { state = stateOf ss nd; read = length t; is = ap (rests (stateOf ss nd) (length t)) (ap (plainSearch ss) (sym (append-nil t))) }
+  walk-node [] t stop e k s = record { state = 0; is = ap (rests 0 (length t)) (ap (plainSearch ss) (sym (append-nil t))) }
+  walk-node [] t (at v) e k s = record { state = stateOf ss (at v); is = ap (rests (stateOf ss (at v)) (length t)) (ap (plainSearch ss) (sym (append-nil t))) }
   walk-node (c ∷ h) t stop e k s =
-      record {
-        state = 0;
-        read = length t;
-        is = walk-stop ws (total ss + 2) h (length t) (plainSearch ss t) ∙ ap (rests zero (length t)) (sym (stopped ss t (c ∷ h) e));
-      }
+      record { state = 0; is = walk-stop ws (total ss + 2) h (length t) (plainSearch ss t) ∙ ap (rests zero (length t)) (sym (stopped ss t (c ∷ h) e)) }
   walk-node (c ∷ h) t (at v) e k s =
       let b = and-both (leb c 127) (characters h) s in
       let k′ = ok-reach ss (t ++ (c ∷ [])) (length (t ++ (c ∷ []))) (omega arith) (reach ss (t ++ (c ∷ []))) refl in
       let ih = walk-node h (t ++ (c ∷ [])) (reach ss (t ++ (c ∷ []))) (stands ss (t ++ (c ∷ [])) (reach ss (t ++ (c ∷ []))) refl) k′ (b .1) in
+      let n : readFrom ss h (reach ss (t ++ (c ∷ []))) (length (t ++ (c ∷ []))) ≡ readFrom ss h (reach ss (v ++ (c ∷ []))) (suc (length t)) = rw (length-snoc t c, e c) in
       record {
         state = ih .state;
-        read = ih .read;
         is =
             ap (walk ws (total ss + 2) h) (step-node t v c e k (omega (arith, leb-true c 127 (b .0))))
             ∙ ap (λ (n : ℕ). walk ws (total ss + 2) h (rests (stateOf ss (reach ss (t ++ (c ∷ [])))) n (plainSearch ss (t ++ (c ∷ []))))) (sym (length-snoc t c))
             ∙ ih .is
-            ∙ ap (λ (u : List ℕ). rests (ih .state) (ih .read) (plainSearch ss u)) (append-assoc t (c ∷ []) h);
+            ∙ ap (λ (m : ℕ). rests (ih .state) m (plainSearch ss (t ++ (c ∷ []) ++ h))) n
+            ∙ ap (λ (u : List ℕ). rests (ih .state) (readFrom ss h (reach ss (v ++ (c ∷ []))) (suc (length t))) (plainSearch ss u)) (append-assoc t (c ∷ []) h);
       }
 
   -- the whole run
-  pub run-search : (h : List ℕ) → characters h ≡ true → Answers (runOver ws h) (plainSearch ss h)
+  pub run-search : (h : List ℕ) → characters h ≡ true → Answers (runOver ws h) (readOver ss h) (plainSearch ss h)
   unfolding runOver
   run-search h s =
       let a = walk-node h [] (at []) (λ c. refl) (inl refl, omega arith) s in
       record {
         state = a .state;
-        read = a .read;
         is =
             rw (table .size)
             (ap (walk ws (total ss + 2) h) (enter-node (at []) 0 nothing (inl refl, omega arith) ∙ ap (rests 1 0) (sym (search-start ss))) ∙ a .is);
       }
+
+pub run-reads : RunReads
+run-reads = λ ss ws host t few ks kh. rw (run-search ss ws t few host kh .is) (reads-over ss host ks kh)

@@ -10,13 +10,13 @@ use lib.ListN.{length, getD, drop}
 use borrow.Author.Needs.{needs}
 use borrow.Author.Tests.{leb-true, le-leb, lt-leb, lt-ltb, le-ltb}
 use Rattle.strlib.proofs.Pointing.{fits-is, good-is, text-length}
-use Rattle.strlib.proofs.Refusing.{and-both, inTurn, first-is, first-before, first-behind, passed, outcome-no}
+use Rattle.strlib.proofs.Refusing.{and-both, inTurn, first-is, first-before, first-behind, passed, outcome-no, outcome-gave}
 use Rattle.strlib.specs.Pointer.{textOf, characters, readable}
 use Rattle.strlib.proofs.Texts.{character-at}
 use Rattle.strlib.specs.Refusal.{Outcome, refused, gives, first, outcome}
 use Rattle.strlib.specs.declared.StrPtr.{StrPtr}
 use Rattle.search.specs.Search.{Result, nothing, found}
-use Rattle.table.specs.Run.{sizeOf, wordOf, isSized, Walk, bad, rests, onlyIf, noted, enter, step, walk, runOver, isRest, ranOf, runRefusal, runRule}
+use Rattle.table.specs.Run.{sizeOf, wordOf, isSized, Walk, bad, rests, onlyIf, noted, enter, step, walk, runOver, isRest, ranOf, runChecks, runRefusal, runRule}
 use Rattle.table.specs.Inner.{noteBy, noteOf, restsOf, walkedOf, Entered, beforeChecks, beforeRun, ended}
 use Rattle.table.specs.declared.Note.{Note}
 use Rattle.table.specs.declared.Progress.{Progress}
@@ -244,6 +244,13 @@ module _ (s : List ℕ) (host : StrPtr) (ws : List ℕ) where
       go : (w : Walk) → ended w ≡ outcome (first ((10, isRest w) ∷ [])) (ranOf w)
       go bad = refl
       go (rests q n r) = refl
+
+  -- an answer is given of a host of characters only, and is the run's
+  pub run-gave : (a : Result × ℕ) → runRule s host ws ≡ gives a → (characters (textOf s host) ≡ true) × (ranOf (runOver ws (textOf s host)) ≡ a)
+  unfolding runRefusal runRule readable
+  run-gave a e =
+      let g = outcome-gave (runRefusal s host ws) (ranOf (runOver ws (textOf s host))) a e in
+      (passed (runChecks s host ws) refl (g .0) .1 .1 .0, g .1)
 
   module _ (k : ℕ) (e : k ≡ beforeRun s host ws) where
     pub run-refused : (k ≡ 0 → ⊥) → refused k ≡ runRule s host ws

@@ -17,7 +17,7 @@ use Rattle.translator.specs.Translate.{listed, translateRefusal, noteIn,
 use Rattle.translator.specs.Demand3.{Listed, Found, Demand3}
 
 -- a note comes with a number read
-noted : (o : Outcome (Result × ℕ)) (r : Result) → noteIn o ≡ gives r → (n : ℕ) × (o ≡ gives (r, n))
+pub noted : (o : Outcome (Result × ℕ)) (r : Result) → noteIn o ≡ gives r → (n : ℕ) × (o ≡ gives (r, n))
 noted (refused k) r e = let z : _≡_ {A = ℕ} 0 1 = cc in absurd (omega arith)
 noted (gives a) r e = let z : a .0 ≡ r = cc in (a .1, ap (λ (x : Result). gives (x, a .1)) z)
 

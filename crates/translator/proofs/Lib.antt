@@ -6,3 +6,4 @@ pub mod Rows
 pub mod Leveling
 pub mod Checking
 pub mod Demand3
+pub mod Early

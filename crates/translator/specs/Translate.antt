@@ -11,6 +11,7 @@ use Rattle.strlib.specs.declared.StrPtr.{StrPtr}
 use Rattle.search.specs.Search.{Result, plainSearch}
 use Rattle.table.specs.Run.{sizeOf, runRule}
 use Rattle.states.specs.State.{total}
+use Rattle.states.specs.Sure.{Sure}
 use Rattle.translator.specs.declared.TranslateAnswer.{TranslateAnswer}
 use Rattle.translator.specs.declared.TranslateAnswer.the-variants.{Done, Refused}
 
@@ -39,13 +40,15 @@ noteIn (refused k) = refused k
 noteIn (gives a) = gives (a .0)
 
 -- the words `new` that a translation of the strings ss leaves where it was lent the words `old`: S is 2 to 242, the words past 1 + 130S stay, and the
--- first 1 + 130S are free but for this: over every host the run does not refuse, and its last note is the plain search's answer
+-- first 1 + 130S are free but for this: over every host the run does not refuse, its last note is the plain search's answer, and it reads at most one
+-- character past any place at which that answer is sure (02, W12)
 pub record Table (ss : List (List ℕ)) (old new : List ℕ) : Type 0 where
   pub low : 2 ≤ sizeOf new
   pub high : sizeOf new ≤ 242
   pub same : length new ≡ length old
   pub past : (i : ℕ) → 1 + 130 * sizeOf new ≤ i → getD new i 0 ≡ getD old i 0
   pub finds : (s : List ℕ) (host : StrPtr) → Host s host → noteIn (runRule s host new) ≡ gives (plainSearch ss (textOf s host))
+  pub early : (s : List ℕ) (host : StrPtr) (k n : ℕ) (r : Result) → Sure ss (take k (textOf s host)) → runRule s host new ≡ gives (r, n) → n ≤ k + 1
 
 -- by the refusal's number: a refusal changes no word
 unfoldable pub Words : ℕ → List (List ℕ) → List ℕ → List ℕ → Type 0

@@ -1,0 +1,31 @@
+-- When the answer of a search is sure: 02, W12. Assumes nothing.
+use Prim.Native.Nat.{ℕ, _≤_}
+use mathlib.Core.Path.{_≡_}
+use mathlib.Core.Bool.{true}
+use mathlib.Core.List.{List, [], _++_}
+use lib.ListN.{length, take}
+use Rattle.strlib.specs.Pointer.{characters}
+use Rattle.search.specs.Search.{Result, plainSearch}
+
+-- after the text t the answer is sure: with every continuation of characters, of whatever length, the search names the same string, start and
+-- end, or nothing found
+unfoldable pub Sure : List (List ℕ) → List ℕ → Type 0
+Sure ss t = (z : List ℕ) → characters z ≡ true → plainSearch ss (t ++ z) ≡ plainSearch ss t
+
+-- k characters of the host stand before the first place at which it is sure
+pub record FirstSure (ss : List (List ℕ)) (host : List ℕ) (k : ℕ) : Type 0 where
+  pub inside : k ≤ length host
+  pub sure : Sure ss (take k host)
+  pub first : (i : ℕ) → Sure ss (take i host) → k ≤ i
+
+-- for an empty list that place is before the first character
+abbrev pub EmptySure : Type 0
+EmptySure = (host : List ℕ) → FirstSure [] host 0
+
+-- nobody can do with fewer: an answer given after n characters that is right whatever follows is not given before that place
+abbrev pub NoFewer : Type 0
+NoFewer =
+    (ss : List (List ℕ)) (host : List ℕ) (k n : ℕ) (r : Result)
+    → FirstSure ss host k
+    → ((z : List ℕ) → characters z ≡ true → plainSearch ss (take n host ++ z) ≡ r)
+    → k ≤ n

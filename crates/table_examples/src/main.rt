@@ -1,5 +1,6 @@
 // Examples A to I of document 01, and a few more, through the plain search and through a table: one translation each, run over the host and over
-// the host without its first character. A line says what the table's run gives, and whether the plain search gives the same.
+// the host without its first character. A line says what the table's run gives, and whether the plain search gives the same. Where a line says
+// less read than the host has, nothing that followed could change the answer (02, W12).
 use search::SearchAnswer;
 use strlib::StrList;
 use strlib::StrPtr;
@@ -156,6 +157,11 @@ fn main() {
     show(b"I", b"abcdexabcdefbcde", 6, 6, 2, 2, 3);
     show(b"first completed", b"abcdabcdbc", 4, 4, 2, 0, 2);
     show(b"no strings", b"0123456789", 10, 0, 0, 0, 0);
+    show(b"sure where 'ab' ends", b"abxab", 3, 2, 0, 0, 1);
+    show(b"'abc' comes too late", b"abccababc", 4, 2, 3, 0, 2);
+    show(b"'abcd' breaks off", b"abcxyzabcdbc", 6, 4, 2, 0, 2);
+    show(b"null string last", b"axyab", 3, 2, 0, 0, 2);
+    show(b"null string first", b"axyab", 3, 0, 2, 0, 2);
     show(b"33 strings", b"0123456789", 10, 0, 0, 0, 33);
     show(b"bad pointer", b"0123456789a", 10, 2, 0, 0, 1);
     show(b"byte 128", b"0123456789\x80", 10, 1, 0, 0, 1);

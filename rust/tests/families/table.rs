@@ -1,7 +1,7 @@
 //! The search table: translated lists run over hosts, and runs over made-up words.
 
 use super::laid_out;
-use crate::oracle::searching::first_occurrence;
+use crate::oracle::searching::{first_occurrence, is_sure};
 use crate::oracle::{self, table};
 use crate::support::rng::Rng;
 use crate::support::{raw, rounds, shapes, Call, Outcome, Round, ROUNDS};
@@ -429,14 +429,30 @@ fn long_lists_over_hosts_made_of_them() {
             .iter()
             .map(|string| oracle::characters(&store, *string))
             .collect();
-        for _ in 0..10 {
+        for nth in 0..10 {
             let host_store = host_of(&mut round.rng, &texts);
             let host = StrPtr::new(0, host_store.len(), host_store.len());
             let answer = run(round, "run", &host_store, host, &rooms.c[..31_461]);
             let found = first_occurrence(&host_store, &texts);
             let found = found.map(|(string, pos1, pos2)| Note { string, pos1, pos2 });
             let call = Call::new("run", &host_store, &texts);
-            round.same(&call, "demand 3", &answer.unwrap().note, &found);
+            let Run { note, read } = answer.unwrap();
+            round.same(&call, "demand 3", &note, &found);
+            if nth > 0 {
+                continue;
+            }
+            // 02, W12: what was left unread could change nothing; before the last two that were read, the answer was not sure yet
+            let ends = || {
+                texts
+                    .iter()
+                    .flat_map(|text| (0..text.len()).map(|from| &text[from..]))
+            };
+            let stopped = read == host_store.len() || is_sure(&host_store[..read], &texts, ends());
+            round.same(&call, "sure where it stopped", &stopped, &true);
+            if read > 1 {
+                let late = is_sure(&host_store[..read - 2], &texts, ends());
+                round.same(&call, "sure two before", &late, &false);
+            }
         }
     });
     tally.expect("translate", &[], &[]);

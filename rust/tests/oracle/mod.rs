@@ -1,4 +1,4 @@
-//! Document 01 in plain Rust, section by section, written from the document and not from the library.
+//! Document 01, and 02 where it says so, in plain Rust, section by section, written from the documents and not from the library.
 //!
 //! Each call gives its answer or a refusal; what it was lent to write it changes as the document says. Naive on purpose.
 

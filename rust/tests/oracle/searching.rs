@@ -15,6 +15,22 @@ pub fn first_occurrence(host: &[u8], strings: &[&[u8]]) -> Option<(usize, usize,
     None
 }
 
+/// 02, W12: with none of these continuations does the search name another string, start or end than in the front alone.
+///
+/// The paper asks it of every continuation. One that changes the answer ends a listed string behind the front, and that
+/// string begins in the front or at its end, or, where nothing was named, may as well begin there: so all texts of the
+/// list's letters that are no longer than its longest string show it, and of these the ends of the listed strings.
+pub fn is_sure<'a>(
+    front: &[u8],
+    strings: &[&[u8]],
+    continuations: impl IntoIterator<Item = &'a [u8]>,
+) -> bool {
+    let named = first_occurrence(front, strings);
+    continuations
+        .into_iter()
+        .all(|more| first_occurrence(&[front, more].concat(), strings) == named)
+}
+
 fn find(
     store: &[u8],
     host: StrPtr,

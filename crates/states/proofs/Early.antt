@@ -2,18 +2,20 @@
 -- answer then ends past the text; an answer found in a text ends inside it. And a stop is led to only where the answer is sure. Assumes nothing.
 use Prim.Native.Nat.{ℕ, zero, suc, _+_, _≤_}
 use mathlib.Core.Path.{_≡_, refl, sym, ap, _∙_}
-use mathlib.Core.Bool.{true, false, false≢true}
+use mathlib.Core.Bool.{Bool, true, false, false≢true}
 use mathlib.Core.List.{List, [], _∷_, _++_, append-assoc, append-nil}
 use native.Mathlib.Omega.{arith}
 use lib.Dec.{eqb, leb}
 use lib.ListN.{length, take, length-append}
-use borrow.Author.Tests.{eqb-true, eq-eqb, le-leb}
+use lib.Seq.{take-length}
+use borrow.Author.Tests.{eqb-true, le-leb}
 use Rattle.strlib.proofs.Refusing.{and-both}
 use Rattle.strlib.specs.Pointer.{all, characters}
 use Rattle.search.proofs.Answering.{found-bounds}
-use Rattle.search.specs.Search.{isPrefix, closed, lengthOf, found, plainSearch}
+use Rattle.search.proofs.Prefixes.{stands-prefix}
+use Rattle.search.specs.Search.{isPrefix, closed, lengthOf, Result, nothing, found, onward, atFront, plainSearch}
 use Rattle.states.specs.Node.{live, kindOf, Node, stop, at, reach}
-use Rattle.states.specs.Sure.{Sure, FirstSure, EmptySure, NoFewer}
+use Rattle.states.specs.Sure.{Sure, FirstSure, EmptySure, NothingSure, NoFewer}
 use Rattle.states.proofs.Prefixes.{apart-longer, how, length-snoc}
 use Rattle.states.proofs.Reaching.{kindOf-cons, live≢shut, live≢dead, at≢stop, dead-closed, dead-longer, kind-case, search-front, stopped}
 
@@ -37,8 +39,7 @@ prefix-rest (x ∷ w) (y ∷ s) e k =
     rest-cons x y w s (eqb-true x y (b .0)) (prefix-rest w s (b .1) (and-both (leb y 127) (characters s) k .1))
 
 prefix-self : (s : List ℕ) → isPrefix s s ≡ true
-prefix-self [] = refl
-prefix-self (x ∷ s) = rw (eq-eqb x x refl) (prefix-self s)
+prefix-self s = stands-prefix s s (take-length s)
 
 -- with some rest behind w a listed string is found at the front that is at least as long as w
 record Grows (ss : List (List ℕ)) (w : List ℕ) : Type 0 where
@@ -141,3 +142,27 @@ empty-sure = λ host. record { inside = omega arith; sure = stop-sure [] [] refl
 pub no-fewer : NoFewer
 unfolding Sure characters all
 no-fewer = λ ss host k n r f d. f .first n (λ z e. d z e ∙ sym (d [] refl) ∙ ap (plainSearch ss) (append-nil (take n host)))
+
+-- ---- with a listed string behind any text something is found
+
+abbrev isFound : Result → Bool
+isFound nothing = false
+isFound (found j pos1 pos2) = true
+
+front-found : (ss : List (List ℕ)) (i : ℕ) (r : Result) → isFound r ≡ true → isFound (atFront ss i (onward r)) ≡ true
+front-found ss zero (found j pos1 pos2) e = refl
+front-found ss zero nothing e = e
+front-found ss (suc i) r e = refl
+
+listed-found : (s : List ℕ) (ss : List (List ℕ)) (t : List ℕ) → isFound (plainSearch (s ∷ ss) (t ++ s)) ≡ true
+listed-found s ss [] = rw (search-front (s ∷ ss) s {k = 0} (rw (prefix-self s)))
+listed-found s ss (x ∷ t) = front-found (s ∷ ss) (closed (s ∷ ss) (x ∷ t ++ s)) (plainSearch (s ∷ ss) (t ++ s)) (listed-found s ss t)
+
+pub nothing-sure : NothingSure
+unfolding Sure all
+nothing-sure = go
+  where
+    go : (ss : List (List ℕ)) (t : List ℕ) → all characters ss ≡ true → Sure ss t → plainSearch ss t ≡ nothing → ss ≡ []
+    go [] t k d e = refl
+    go (s ∷ ss) t k d e =
+        absurd (false≢true (ap isFound (sym (d s (and-both (characters s) (all characters ss) k .0) ∙ e)) ∙ listed-found s ss t))

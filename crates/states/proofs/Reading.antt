@@ -1,5 +1,5 @@
 -- The number that a run reads. Over the nodes of a list: at most one character past a place at which the answer is sure, and all characters
--- or up to such a place. Over any words: past the end of what was found, where characters are left unread. Assumes nothing.
+-- or up to such a place. Over any words: past the end of what was found, if a character follows it. Assumes nothing.
 use Prim.Native.Nat.{ℕ, zero, suc, _+_, _≤_, _<_}
 use mathlib.Core.Path.{_≡_, refl, sym, ap, _∙_}
 use mathlib.Core.Bool.{Bool, true, false, _&&_}
@@ -15,7 +15,7 @@ use Rattle.search.specs.Search.{Result, nothing, found}
 use Rattle.table.specs.Run.{sizeOf, wordOf, Walk, bad, rests, onlyIf, noted, enter, step, walk, runOver}
 use Rattle.states.specs.Node.{Node, stop, at, reach, nextNode}
 use Rattle.states.specs.Sure.{Sure}
-use Rattle.states.specs.Reads.{Reads, PastNote}
+use Rattle.states.specs.Reads.{PastNote}
 use Rattle.states.proofs.Reaching.{at≢stop, reach-step}
 use Rattle.states.proofs.Early.{sure-stop, stop-sure}
 
@@ -54,7 +54,7 @@ read-past ss [] k s = omega arith
 read-past ss (c ∷ h) k s = omega (arith, read-to ss h (c ∷ []) (reach ss (c ∷ [])) 1 k refl s)
 
 -- at most one character past any place at which the answer is sure
-read-early : (ss : List (List ℕ)) (h : List ℕ) (k : ℕ) → all characters ss ≡ true → characters h ≡ true → Sure ss (take k h) → readOver ss h ≤ k + 1
+pub read-early : (ss : List (List ℕ)) (h : List ℕ) (k : ℕ) → all characters ss ≡ true → characters h ≡ true → Sure ss (take k h) → readOver ss h ≤ k + 1
 read-early ss h k ks kh d =
     either (length h) k
     (λ (l : length h ≤ k). omega (arith, read-le ss h (at []) 0))
@@ -72,15 +72,12 @@ read-stops ss (c ∷ h) t (at v) n e l =
     let (m, q, s) = read-stops ss h (t ++ (c ∷ [])) (reach ss (v ++ (c ∷ []))) (suc n) d (omega arith) in
     (suc m, omega arith, ap (reach ss) (sym (append-assoc t (c ∷ []) (take m h))) ∙ s)
 
-read-sure : (ss : List (List ℕ)) (h : List ℕ) → readOver ss h < length h → Sure ss (take (readOver ss h) h)
+pub read-sure : (ss : List (List ℕ)) (h : List ℕ) → readOver ss h < length h → Sure ss (take (readOver ss h) h)
 read-sure ss [] l = absurd (omega arith)
 read-sure ss (c ∷ h) l =
     let (m, q, s) = read-stops ss h (c ∷ []) (reach ss (c ∷ [])) 1 refl (omega arith) in
     let e : readOver ss (c ∷ h) ≡ suc m = omega arith in
     rw e (stop-sure ss (c ∷ take m h) s)
-
-pub reads-over : (ss : List (List ℕ)) (h : List ℕ) → all characters ss ≡ true → characters h ≡ true → Reads ss h (readOver ss h)
-reads-over ss h ks kh = record { early = λ k d. read-early ss h k ks kh d; sure = read-sure ss h }
 
 -- ---- any words
 
@@ -126,12 +123,13 @@ module _ (ws : List ℕ) (size : ℕ) where
   on-walk m k [] w e o = let z : m ≡ k = omega arith in rw z at o
   on-walk m k (c ∷ h) w e o = on-walk (suc m) k h (step ws size w c) (omega arith) (on-step m w c o)
 
-past-note-at : (m q n j pos1 pos2 : ℕ) → On m (rests q n (found j pos1 pos2)) → n < m → pos2 ≤ n
+past-note-at : (m q n j pos1 pos2 : ℕ) → On m (rests q n (found j pos1 pos2)) → pos2 ≤ m → pos2 ≤ n
 past-note-at m zero n j pos1 pos2 k l = k
-past-note-at m (suc q) n j pos1 pos2 k l = absurd (omega (arith, k .0))
+past-note-at m (suc q) n j pos1 pos2 k l = omega (arith, k .0)
 
 pub past-note : PastNote
 unfolding runOver
 past-note =
     λ ws host q n j pos1 pos2 e l.
-    past-note-at (length host) q n j pos1 pos2 (rw e at (on-walk ws (sizeOf ws) 0 (length host) host (enter ws 1 0 nothing) (omega arith) (on-enter ws (sizeOf ws) 1 0 nothing tt))) l
+    let o = on-walk ws (sizeOf ws) 0 (length host) host (enter ws 1 0 nothing) (omega arith) (on-enter ws (sizeOf ws) 1 0 nothing tt) in
+    past-note-at (length host) q n j pos1 pos2 (rw e at o) l

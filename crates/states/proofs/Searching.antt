@@ -17,11 +17,11 @@ use Rattle.table.proofs.Walking.{enter-pos, step-pos, walk-stop}
 use Rattle.table.specs.Run.{Walk, rests, noted, enter, step, walk, runOver}
 use Rattle.states.specs.Node.{Node, stop, at, reach, nextNode, noteAt, nodeNote}
 use Rattle.states.specs.State.{total, stateOf, IsNode, Represents}
-use Rattle.states.specs.Reads.{RunReads}
+use Rattle.states.specs.Reads.{Ends, RunEnds}
 use Rattle.states.proofs.Prefixes.{length-snoc}
 use Rattle.states.proofs.Reaching.{reach-step, reach-live, reach-length, live-child, stopped}
 use Rattle.states.proofs.Noting.{renoted, note-length, note-count, note-reach, search-start, search-snoc}
-use Rattle.states.proofs.Reading.{readFrom, readOver, reads-over}
+use Rattle.states.proofs.Reading.{readFrom, readOver, read-early, read-sure}
 use Rattle.states.proofs.Numbering.{state-lt, state-pos}
 
 -- a node stands for the text t: it is a stop like t's, or it goes on as t does. The start stands for [], for an empty list too
@@ -52,7 +52,7 @@ ok-lt ss stop n h = omega arith
 ok-lt ss (at v) n h = state-lt ss v (h .0)
 
 -- a run rests with n characters read and the answer r
-pub record Answers (w : Walk) (n : ℕ) (r : Result) : Type 0 where
+record Answers (w : Walk) (n : ℕ) (r : Result) : Type 0 where
   pub state : ℕ
   pub is : w ≡ rests state n r
 
@@ -101,7 +101,7 @@ module _ (ss : List (List ℕ)) (ws : List ℕ) (table : Represents ss ws) (few 
       }
 
   -- the whole run
-  pub run-search : (h : List ℕ) → characters h ≡ true → Answers (runOver ws h) (readOver ss h) (plainSearch ss h)
+  run-search : (h : List ℕ) → characters h ≡ true → Answers (runOver ws h) (readOver ss h) (plainSearch ss h)
   unfolding runOver
   run-search h s =
       let a = walk-node h [] (at []) (λ c. refl) (inl refl, omega arith) s in
@@ -112,5 +112,8 @@ module _ (ss : List (List ℕ)) (ws : List ℕ) (table : Represents ss ws) (few 
             (ap (walk ws (total ss + 2) h) (enter-node (at []) 0 nothing (inl refl, omega arith) ∙ ap (rests 1 0) (sym (search-start ss))) ∙ a .is);
       }
 
-pub run-reads : RunReads
-run-reads = λ ss ws host t few ks kh. rw (run-search ss ws t few host kh .is) (reads-over ss host ks kh)
+pub run-ends : RunEnds
+run-ends =
+    λ ss ws host t few ks kh.
+    let a = run-search ss ws t few host kh in
+    record { state = a .state; read = readOver ss host; ran = a .is; early = λ k d. read-early ss host k ks kh d; sure = read-sure ss host }

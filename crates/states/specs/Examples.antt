@@ -16,7 +16,7 @@ longer = bytes "ab" ∷ bytes "abc" ∷ []
 abbrev pub inner : List (List ℕ)
 inner = bytes "abcd" ∷ bytes "bc" ∷ []
 
--- the null string is found at once, and is the answer only where no string before it can be found there
+-- the null string is found at once, and is the answer only where no string before it can be found at its place
 abbrev pub null-last : List (List ℕ)
 null-last = bytes "ab" ∷ [] ∷ []
 

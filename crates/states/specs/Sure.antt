@@ -4,15 +4,15 @@ use mathlib.Core.Path.{_≡_}
 use mathlib.Core.Bool.{true}
 use mathlib.Core.List.{List, [], _++_}
 use lib.ListN.{length, take}
-use Rattle.strlib.specs.Pointer.{characters}
-use Rattle.search.specs.Search.{Result, plainSearch}
+use Rattle.strlib.specs.Pointer.{all, characters}
+use Rattle.search.specs.Search.{Result, nothing, plainSearch}
 
 -- after the text t the answer is sure: with every continuation of characters, of whatever length, the search names the same string, start and
 -- end, or nothing found
 unfoldable pub Sure : List (List ℕ) → List ℕ → Type 0
 Sure ss t = (z : List ℕ) → characters z ≡ true → plainSearch ss (t ++ z) ≡ plainSearch ss t
 
--- k characters of the host stand before the first place at which it is sure
+-- k characters of the host stand before the first place at which it is sure; not every host has such a place
 pub record FirstSure (ss : List (List ℕ)) (host : List ℕ) (k : ℕ) : Type 0 where
   pub inside : k ≤ length host
   pub sure : Sure ss (take k host)
@@ -22,7 +22,11 @@ pub record FirstSure (ss : List (List ℕ)) (host : List ℕ) (k : ℕ) : Type 0
 abbrev pub EmptySure : Type 0
 EmptySure = (host : List ℕ) → FirstSure [] host 0
 
--- nobody can do with fewer: an answer given after n characters that is right whatever follows is not given before that place
+-- and only for an empty list is nothing found ever sure: else a listed string may follow
+abbrev pub NothingSure : Type 0
+NothingSure = (ss : List (List ℕ)) (t : List ℕ) → all characters ss ≡ true → Sure ss t → plainSearch ss t ≡ nothing → ss ≡ []
+
+-- who names an answer after n characters, whatever it is, that is right with every continuation has come to that place
 abbrev pub NoFewer : Type 0
 NoFewer =
     (ss : List (List ℕ)) (host : List ℕ) (k n : ℕ) (r : Result)

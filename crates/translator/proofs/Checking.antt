@@ -20,7 +20,7 @@ use Rattle.table.proofs.Running.{is-sized, run-gave}
 use Rattle.table.specs.Run.{sizeOf, isSized, Walk, runOver, isRest, ranOf, runRefusal, runRule}
 use Rattle.states.proofs.Levelling.{kept-none, kept-frame, kept-trans}
 use Rattle.states.proofs.Rowing.{rows-of}
-use Rattle.states.proofs.Searching.{Answers, run-search, run-reads}
+use Rattle.states.proofs.Searching.{run-ends}
 use Rattle.states.specs.State.{total, Represents}
 use Rattle.states.specs.Sure.{Sure}
 use Rattle.states.specs.Fill.{Rowed, Levels, Kept}
@@ -121,26 +121,20 @@ ones s list count ws r i h = getD-replicate 32 i 1 0 (omega (arith, few-listed s
 -- ---- the table: v is word 0, then the start's row, then all others
 
 -- words that hold the rows answer every host
-module _ (ss : List (List ℕ)) (ws : List ℕ) (holds : Represents ss ws) (few : length ss ≤ 32) (small : total ss ≤ 240) where
+module _ (ss : List (List ℕ)) (ws : List ℕ) (holds : Represents ss ws) (few : length ss ≤ 32) (small : total ss ≤ 240) (plain : all characters ss ≡ true) where
   pub table-sized : isSized ws ≡ true
   table-sized = is-sized ws (omega (arith, holds .size)) (omega (arith, holds .size)) (omega (arith, holds .size, holds .long))
 
-  rested : (w : Walk) (n : ℕ) (r : Result) → Answers w n r → (isRest w ≡ true) × (ranOf w .0 ≡ r)
-  rested w n r a = rw (a .is) (refl, refl)
-
   pub table-finds : (t : List ℕ) (host : StrPtr) → Host t host → noteIn (runRule t host ws) ≡ gives (plainSearch ss (textOf t host))
   unfolding runRule runRefusal outcome readable
-  table-finds t host h =
-      let a = rested (runOver ws (textOf t host)) _ (plainSearch ss (textOf t host)) (run-search ss ws holds few (textOf t host) (h .read)) in
-      rw (h .fits, h .good, h .read, table-sized, a .0) (ap gives (a .1))
+  table-finds t host h = rw (h .fits, h .good, h .read, table-sized, run-ends ss ws (textOf t host) holds few plain (h .read) .ran)
 
-  pub table-early : all characters ss ≡ true → (t : List ℕ) (host : StrPtr) (k n : ℕ) (r : Result) → Sure ss (take k (textOf t host))
-      → runRule t host ws ≡ gives (r, n)
-      → n ≤ k + 1
-  table-early plain t host k n r sure e =
+  pub table-early : (t : List ℕ) (host : StrPtr) (k n : ℕ) (r : Result) → Sure ss (take k (textOf t host)) → runRule t host ws ≡ gives (r, n) → n ≤ k + 1
+  table-early t host k n r sure e =
       let g = run-gave t host ws (r, n) e in
-      let m : ranOf (runOver ws (textOf t host)) .1 ≡ n = ap (λ (x : Result × ℕ). x .1) (g .1) in
-      omega (arith, m, run-reads ss ws (textOf t host) holds few plain (g .0) .early k sure)
+      let b = run-ends ss ws (textOf t host) holds few plain (g .0) in
+      let m : b .read ≡ n = ap (λ (x : Result × ℕ). x .1) (ap ranOf (sym (b .ran)) ∙ g .1) in
+      omega (arith, m, b .early k sure)
 
 module _ (s : List ℕ) (list : List StrPtr) (count : ℕ) (ws : List ℕ) (r : Ready s list count ws) (n v : ℕ) (en : n ≡ total (listed s list count)) (ev : v ≡ n + 2) where
   pub set-ready : Ready s list count (set ws 0 v)
@@ -173,6 +167,6 @@ module _ (s : List ℕ) (list : List StrPtr) (count : ℕ) (ws : List ℕ) (r : 
             high = omega (arith, size, r .small);
             same = same;
             past = λ i h. kept .high i (omega (arith, size)) ∙ getD-set-other ws 0 i v 0 (λ e. omega arith);
-            finds = table-finds (listed s list count) ws₂ holds (few-listed s list count (r .few)) (r .small);
+            finds = table-finds (listed s list count) ws₂ holds (few-listed s list count (r .few)) (r .small) (r .plain);
             early = table-early (listed s list count) ws₂ holds (few-listed s list count (r .few)) (r .small) (r .plain);
           }

@@ -11,13 +11,14 @@ use Rattle.states.specs.Sure.{FirstSure}
 use Rattle.translator.specs.Translate.{listed, Host, Translated}
 
 -- what a run over the words does with one host: it names what the plain search names, and reads at most one character past the first place at
--- which that is sure
+-- which that is sure, if there is one. For an empty list that place is 0 (`EmptySure`). What is read is 01's number read: refusal 2 is of the whole host
 pub record EndsEarly (ss : List (List ℕ)) (words s : List ℕ) (host : StrPtr) : Type 0 where
   pub read : ℕ
   pub ran : runRule s host words ≡ gives (plainSearch ss (textOf s host), read)
-  pub early : (k : ℕ) → FirstSure ss (textOf s host) k → read ≤ k + 1
+  pub past : (k : ℕ) → FirstSure ss (textOf s host) k → read ≤ k + 1
 
--- any list that was translated, whatever the room held; any host that a run takes, in any store
+-- any list that was translated, whatever the room held; any host that a run takes, in any store. It follows from the translator's promise, which
+-- has the bound for every sure place (`Table`)
 abbrev pub Early : Type 0
 Early =
     (s : List ℕ) (list : List StrPtr) (count : ℕ) (old new : List ℕ)

@@ -40,8 +40,8 @@ noteIn (refused k) = refused k
 noteIn (gives a) = gives (a .0)
 
 -- the words `new` that a translation of the strings ss leaves where it was lent the words `old`: S is 2 to 242, the words past 1 + 130S stay, and the
--- first 1 + 130S are free but for this: over every host the run does not refuse, its last note is the plain search's answer, and it reads at most one
--- character past any place at which that answer is sure (02, W12)
+-- first 1 + 130S are free but for this: over a host that is good and of characters the run is not refused, its last note is the plain search's
+-- answer, and it reads at most one character past each place at which that answer is sure, the first of them included (02, W12)
 pub record Table (ss : List (List ℕ)) (old new : List ℕ) : Type 0 where
   pub low : 2 ≤ sizeOf new
   pub high : sizeOf new ≤ 242

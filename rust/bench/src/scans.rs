@@ -70,12 +70,12 @@ fn one_list(list: &Lists) {
         let said = strlib::run(black_box(&host), over, black_box(&table)).unwrap();
         assert!(said.note.is_none() && said.read == host.len());
     });
+    // the plain search takes its list from the host's store, so the host is shorter by the strings
+    let mut both = store.clone();
+    both.extend_from_slice(&host[..host.len() - store.len()]);
+    let shorter = full(store.len(), host.len() - store.len());
     let searched = best(|| {
-        // the plain search takes its list from the host's store, so the host is shorter by the strings
-        let mut both = store.clone();
-        both.extend_from_slice(&host[..host.len() - store.len()]);
-        let over = full(store.len(), host.len() - store.len());
-        assert!(strlib::search(black_box(&both), over, &pointers)
+        assert!(strlib::search(black_box(&both), shorter, &pointers)
             .unwrap()
             .is_none());
     });
@@ -85,7 +85,34 @@ fn one_list(list: &Lists) {
         ran,
         searched,
     );
+    early(list, host.clone(), ran);
     with_aho(list, &host, translated, ran);
+}
+
+/// The last string of the list stands in the first hundred characters of a long remark: nothing behind it can matter.
+fn early(list: &Lists, mut host: Vec<u8>, to_the_end: Duration) {
+    let last = &list.strings[list.strings.len() - 1];
+    let Some(at) = 99_usize.checked_sub(last.len()) else {
+        return;
+    };
+    host[at..99].copy_from_slice(last);
+    let (mut store, pointers) = store_of(&list.strings);
+    let mut table = vec![0; TABLE_MIN];
+    strlib::translate(&store, &pointers, &mut table).unwrap();
+    // both read the same host, which is shorter by the strings
+    let over = full(store.len(), host.len() - store.len());
+    store.extend_from_slice(&host[..over.length]);
+    let ran = best(|| {
+        let said = strlib::run(black_box(&store), over, black_box(&table)).unwrap();
+        assert!(said.note.is_some() && said.read <= 100);
+    });
+    let searched = best(|| {
+        let found = strlib::search(black_box(&store), over, &pointers).unwrap();
+        assert!(found.is_some_and(|found| found.matched.start == over.start + at));
+    });
+    let what = format!("run, {}, found in the first 100", list.name);
+    row(&what, "the library's plain search", ran, searched);
+    row(&what, "the run of a host without them", ran, to_the_end);
 }
 
 #[cfg(not(feature = "peers"))]

@@ -59,7 +59,9 @@ typedef struct { bool house; size_t offset, length; } strlib_label;
 typedef struct { uint8_t refusal; bool found; size_t number; strlib_ptr before, matched, after; } strlib_match;
 typedef struct { uint8_t refusal; bool found; size_t number; strlib_ptr front, back; } strlib_split;
 
-/* the last note of a table's run, where there is one: string, start and end; and the number of characters read, found or not */
+/* the last note of a table's run, where there is one: string, start and end; and the number of characters read, found or not. A translated
+ * table's run reads at most one character past the first place at which the answer is sure, whatever follows: for a list of no strings at
+ * most one. Refusal 2 is of the whole host, read or not. */
 typedef struct { uint8_t refusal; bool found; size_t string, pos1, pos2, read; } strlib_note;
 
 /* where found: a host character's code and position (from 1) */

@@ -10,7 +10,8 @@ pub struct Note {
     pub pos2: usize,
 }
 
-/// A run's last note, where there is one, and the number of characters read.
+/// A run's last note, where there is one, and the number of characters read: of a translated table at most one past the first
+/// place at which the answer is sure, whatever follows.
 #[derive(Clone, Copy, Debug, PartialEq, Eq)]
 pub struct Run {
     pub note: Option<Note>,

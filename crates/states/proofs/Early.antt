@@ -15,7 +15,7 @@ use Rattle.search.proofs.Answering.{found-bounds}
 use Rattle.search.proofs.Prefixes.{stands-prefix}
 use Rattle.search.specs.Search.{isPrefix, closed, lengthOf, Result, nothing, found, onward, atFront, plainSearch}
 use Rattle.states.specs.Node.{live, kindOf, Node, stop, at, reach}
-use Rattle.states.specs.Sure.{Sure, FirstSure, EmptySure, NothingSure, NoFewer}
+use Rattle.states.specs.Sure.{Sure, FirstSure, EmptySure, NothingSure}
 use Rattle.states.proofs.Prefixes.{apart-longer, how, length-snoc}
 use Rattle.states.proofs.Reaching.{kindOf-cons, live≢shut, live≢dead, at≢stop, dead-closed, dead-longer, kind-case, search-front, stopped}
 
@@ -131,17 +131,13 @@ sure-stop ss t c k l d = go (reach ss (t ++ (c ∷ []))) refl
         = sym (d (c ∷ o .rest) plain) ∙ ap (plainSearch ss) (sym (append-assoc t (c ∷ []) (o .rest))) ∙ o .finds in
         absurd (omega (arith, found-bounds ss t (o .number) (o .pos1) (o .pos2) q .1 .1, o .late, length-snoc t c))
 
--- the other way round: a run stops only where the answer is sure
-pub stop-sure : (ss : List (List ℕ)) (t : List ℕ) → reach ss t ≡ stop → Sure ss t
+-- the other way round
+stop-sure : (ss : List (List ℕ)) (t : List ℕ) → reach ss t ≡ stop → Sure ss t
 unfolding Sure
 stop-sure ss t e = λ z k. stopped ss t z e
 
 pub empty-sure : EmptySure
 empty-sure = λ host. record { inside = omega arith; sure = stop-sure [] [] refl; first = λ i d. omega arith }
-
-pub no-fewer : NoFewer
-unfolding Sure characters all
-no-fewer = λ ss host k n r f d. f .first n (λ z e. d z e ∙ sym (d [] refl) ∙ ap (plainSearch ss) (append-nil (take n host)))
 
 -- ---- with a listed string behind any text something is found
 

@@ -28,6 +28,12 @@ single-least zero d = absurd (not-sure single [] (bytes "ab") refl refl d)
 single-least (suc zero) d = absurd (not-sure single (bytes "a") (bytes "b") refl refl d)
 single-least (suc (suc i)) d = omega arith
 
+single-never : (k : ℕ) → Sure single (take k (bytes "xa")) → ⊥
+unfolding characters all
+single-never zero d = not-sure single [] (bytes "ab") refl refl d
+single-never (suc zero) d = not-sure single (bytes "x") (bytes "ab") refl refl d
+single-never (suc (suc k)) d = not-sure single (bytes "xa") (bytes "b") refl refl d
+
 longer-least : (i : ℕ) → Sure longer (take i (bytes "abcc")) → 2 ≤ i
 unfolding characters all
 longer-least zero d = absurd (not-sure longer [] (bytes "ab") refl refl d)
@@ -58,8 +64,9 @@ unfolding Sure
 examples =
     record {
       ends = record { inside = omega arith; sure = λ z k. refl; first = single-least };
+      never = single-never;
       goes-on = record { inside = omega arith; sure = λ z k. refl; first = longer-least };
       breaks-off = record { inside = omega arith; sure = λ z k. refl; first = inner-least };
-      no-string-before = record { inside = omega arith; sure = λ z k. refl; first = null-last-least };
-      at-once = record { inside = omega arith; sure = null-sure; first = λ i d. omega arith };
+      null-after = record { inside = omega arith; sure = λ z k. refl; first = null-last-least };
+      null-at-once = record { inside = omega arith; sure = null-sure; first = λ i d. omega arith };
     }

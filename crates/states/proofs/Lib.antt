@@ -4,6 +4,7 @@ pub mod Noting
 pub mod Numbering
 pub mod Early
 pub mod Reading
+pub mod Stopping
 pub mod Searching
 pub mod Examples
 pub mod Targeting

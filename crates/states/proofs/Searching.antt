@@ -21,7 +21,7 @@ use Rattle.states.specs.Reads.{Ends, RunEnds}
 use Rattle.states.proofs.Prefixes.{length-snoc}
 use Rattle.states.proofs.Reaching.{reach-step, reach-live, reach-length, live-child, stopped}
 use Rattle.states.proofs.Noting.{renoted, note-length, note-count, note-reach, search-start, search-snoc}
-use Rattle.states.proofs.Reading.{readFrom, readOver, read-early, read-sure}
+use Rattle.states.proofs.Reading.{readFrom, readOver, read-early}
 use Rattle.states.proofs.Numbering.{state-lt, state-pos}
 
 -- a node stands for the text t: it is a stop like t's, or it goes on as t does. The start stands for [], for an empty list too
@@ -116,4 +116,4 @@ pub run-ends : RunEnds
 run-ends =
     λ ss ws host t few ks kh.
     let a = run-search ss ws t few host kh in
-    record { state = a .state; read = readOver ss host; ran = a .is; early = λ k d. read-early ss host k ks kh d; sure = read-sure ss host }
+    record { state = a .state; read = readOver ss host; ran = a .is; early = λ k d. read-early ss host k ks kh d }

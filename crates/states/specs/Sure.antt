@@ -5,10 +5,10 @@ use mathlib.Core.Bool.{true}
 use mathlib.Core.List.{List, [], _++_}
 use lib.ListN.{length, take}
 use Rattle.strlib.specs.Pointer.{all, characters}
-use Rattle.search.specs.Search.{Result, nothing, plainSearch}
+use Rattle.search.specs.Search.{nothing, plainSearch}
 
 -- after the text t the answer is sure: with every continuation of characters, of whatever length, the search names the same string, start and
--- end, or nothing found
+-- end, or nothing found (a `Result` has no pointers: these are left aside)
 unfoldable pub Sure : List (List ℕ) → List ℕ → Type 0
 Sure ss t = (z : List ℕ) → characters z ≡ true → plainSearch ss (t ++ z) ≡ plainSearch ss t
 
@@ -22,14 +22,6 @@ pub record FirstSure (ss : List (List ℕ)) (host : List ℕ) (k : ℕ) : Type 0
 abbrev pub EmptySure : Type 0
 EmptySure = (host : List ℕ) → FirstSure [] host 0
 
--- and only for an empty list is nothing found ever sure: else a listed string may follow
+-- and of lists of strings of characters only for an empty one is nothing found ever sure: else a listed string may follow
 abbrev pub NothingSure : Type 0
 NothingSure = (ss : List (List ℕ)) (t : List ℕ) → all characters ss ≡ true → Sure ss t → plainSearch ss t ≡ nothing → ss ≡ []
-
--- who names an answer after n characters, whatever it is, that is right with every continuation has come to that place
-abbrev pub NoFewer : Type 0
-NoFewer =
-    (ss : List (List ℕ)) (host : List ℕ) (k n : ℕ) (r : Result)
-    → FirstSure ss host k
-    → ((z : List ℕ) → characters z ≡ true → plainSearch ss (take n host ++ z) ≡ r)
-    → k ≤ n

@@ -1,7 +1,7 @@
 -- Laws of the characters of listed strings, by induction on the list, and of one of the characters of a string. Assumes nothing.
 use mathlib.Core.Path.{_≡_, refl, ap}
-use mathlib.Core.Bool.{true}
-use mathlib.Core.List.{List, [], _∷_}
+use mathlib.Core.Bool.{true, _&&_}
+use mathlib.Core.List.{List, [], _∷_, _++_}
 use Prim.Native.Nat.{ℕ, zero, suc, _≤_, _<_}
 use native.Mathlib.Omega.{arith}
 use lib.Dec.{leb}
@@ -9,12 +9,18 @@ use lib.ListN.{length, take, drop, getD}
 use lib.Seq.{drop-nil}
 use borrow.Author.Tests.{leb-true}
 use Rattle.strlib.proofs.Listing.{all-at}
+use Rattle.strlib.proofs.Refusing.{bool-case}
 use Rattle.strlib.specs.Pointer.{textOf, texts, all, characters, readable}
 use Rattle.strlib.specs.declared.StrPtr.{StrPtr}
 
 pub character-at : (h : List ℕ) (i : ℕ) → characters h ≡ true → i < length h → getD h i 0 ≤ 127
 unfolding characters
 character-at h i e l = leb-true (getD h i 0) 127 (all-at (λ x. leb x 127) h i 0 e l)
+
+pub characters-append : (a b : List ℕ) → characters (a ++ b) ≡ (characters a && characters b)
+unfolding characters all
+characters-append [] b = refl
+characters-append (x ∷ a) b = bool-case (leb x 127) (λ p. rw p (characters-append a b)) (λ p. rw p)
 
 pub texts-long : (s : List ℕ) (ps : List StrPtr) → length (texts s ps) ≡ length ps
 unfolding texts

@@ -20,4 +20,4 @@ early-end =
     let none : translateRefusal s list count (length old) ≡ 0 = outcome-gave (translateRefusal s list count (length old)) tt tt (sym (t .answered)) .0 in
     let table : Table ss old new = rw none at (t .words) in
     let a = noted (runRule u host new) (plainSearch ss (textOf u host)) (table .finds u host h) in
-    record { read = a .0; ran = a .1; past = λ k f. table .early u host k (a .0) (plainSearch ss (textOf u host)) (f .sure) (a .1) }
+    record { read = a .0; ran = a .1; early = λ k f. table .early u host k (a .0) (plainSearch ss (textOf u host)) (f .sure) (a .1) }

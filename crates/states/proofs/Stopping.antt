@@ -1,0 +1,110 @@
+-- Where a run over any words rests: it has read all, or stopped, and then nothing behind what it read could matter. So words that find what the
+-- search finds stop only where the answer is sure, and a note is followed by one character more. Assumes nothing.
+use Prim.Native.Nat.{ℕ, zero, suc, _+_, _≤_, _<_}
+use mathlib.Core.Path.{_≡_, refl, sym, ap, _∙_}
+use mathlib.Core.Bool.{Bool, true, false, _&&_}
+use mathlib.Core.List.{List, [], _∷_, _++_, append-nil}
+use native.Mathlib.Omega.{arith}
+use lib.Dec.{leb, ltb}
+use lib.ListN.{length, take}
+use Rattle.strlib.proofs.Listing.{all-take}
+use Rattle.strlib.proofs.Texts.{characters-append}
+use Rattle.strlib.specs.Pointer.{all, characters}
+use Rattle.search.specs.Search.{Result, nothing, found, plainSearch}
+use Rattle.table.proofs.Walking.{walk-bad, walk-stop}
+use Rattle.table.specs.Run.{sizeOf, wordOf, Walk, bad, rests, onlyIf, noted, enter, step, walk, runOver, ranOf}
+use Rattle.states.specs.Sure.{Sure, FirstSure}
+use Rattle.states.specs.Reads.{Finds, Stops, RunStops, PastNote}
+
+-- the end of what was found is at most m
+abbrev EndsBy : ℕ → Result → Type 0
+EndsBy m nothing = Unit {0}
+EndsBy m (found j pos1 pos2) = pos2 ≤ m
+
+ends-later : (m : ℕ) (r : Result) → EndsBy m r → EndsBy (suc m) r
+ends-later m nothing k = tt
+ends-later m (found j pos1 pos2) k = omega arith
+
+-- a state was entered with m characters read: a stop notes nothing, another state may note what ends with the last of them
+abbrev Entered : ℕ → Walk → Type 0
+Entered m bad = Unit {0}
+Entered m (rests zero n r) = (n ≡ m) × EndsBy n r
+Entered m (rests (suc q) n r) = (n ≡ m) × EndsBy (suc n) r
+
+entered-only : (m : ℕ) (b : Bool) (w : Walk) → Entered m w → Entered m (onlyIf b w)
+entered-only m true w k = k
+entered-only m false w k = tt
+
+module _ (ws : List ℕ) (size : ℕ) where
+  entered-noted : (q f l n : ℕ) (r : Result) → EndsBy n r → Entered n (noted (suc q) f l n r)
+  entered-noted q zero l n r k = (refl, ends-later n r k)
+  entered-noted q (suc f) l n r k = entered-only n (leb (suc f) 32 && leb l n) (rests (suc q) n (found (suc f) _ (suc n))) (refl, omega arith)
+
+  entered : (q n : ℕ) (r : Result) → EndsBy n r → Entered n (enter ws q n r)
+  unfolding enter
+  entered zero n r k = (refl, k)
+  entered (suc q) n r k = entered-noted q (wordOf ws (suc q) 128) (wordOf ws (suc q) 129) n r k
+
+  -- where a run over h rests, from w with m characters read: it has read them all; or it stopped, and would have with anything else behind what it read
+  abbrev Rested : List ℕ → Walk → ℕ → Walk → Type 0
+  Rested h w m bad = Unit {0}
+  Rested h w m (rests zero n r) = (d : ℕ) × (m + d ≡ n) × EndsBy n r × ((z : List ℕ) → walk ws size (take d h ++ z) w ≡ rests zero n r)
+  Rested h w m (rests (suc q) n r) = n ≡ m + length h
+
+  rested-later : (c : ℕ) (h : List ℕ) (w : Walk) (m : ℕ) (end : Walk) → Rested h (step ws size w c) (suc m) end → Rested (c ∷ h) w m end
+  unfolding walk
+  rested-later c h w m bad k = tt
+  rested-later c h w m (rests zero n r) (d, e, k, f) = (suc d, omega arith, k, f)
+  rested-later c h w m (rests (suc q) n r) k = omega arith
+
+  rested : (h : List ℕ) (w : Walk) (m : ℕ) → Entered m w → Rested h w m (walk ws size h w)
+  unfolding walk step
+  rested [] bad m k = tt
+  rested [] (rests zero n r) m k = (0, omega (arith, k .0), k .1, λ z. walk-stop ws size z n r)
+  rested [] (rests (suc q) n r) m k = omega (arith, k .0)
+  rested (c ∷ h) bad m k = rw (walk-bad ws size h) tt
+  rested (c ∷ h) (rests zero n r) m k = rw (walk-stop ws size h n r) (0, omega (arith, k .0), k .1, λ z. walk-stop ws size z n r)
+  rested (c ∷ h) (rests (suc q) n r) m k =
+      let w : Walk = step ws size (rests (suc q) n r) c in
+      let next : Entered (suc m) w
+      = rw (← k .0) (entered-only (suc n) (ltb (wordOf ws (suc q) c) size) (enter ws (wordOf ws (suc q) c) (suc n) r) (entered (wordOf ws (suc q) c) (suc n) r (k .1))) in
+      rested-later c h (rests (suc q) n r) m (walk ws size h w) (rested h w (suc m) next)
+
+-- of a whole run
+run-rested : (ws h : List ℕ) → Rested ws (sizeOf ws) h (enter ws 1 0 nothing) 0 (runOver ws h)
+unfolding runOver
+run-rested ws h = rested ws (sizeOf ws) h (enter ws 1 0 nothing) 0 (entered ws (sizeOf ws) 1 0 nothing tt)
+
+-- ---- what was found
+
+past-note-at : (ws h : List ℕ) (q n j pos1 pos2 : ℕ) → Rested ws (sizeOf ws) h (enter ws 1 0 nothing) 0 (rests q n (found j pos1 pos2)) → pos2 ≤ length h → pos2 ≤ n
+past-note-at ws h zero n j pos1 pos2 (d, e, k, f) l = k
+past-note-at ws h (suc q) n j pos1 pos2 k l = omega arith
+
+pub past-note : PastNote
+past-note = λ ws host q n j pos1 pos2 e l. past-note-at ws host q n j pos1 pos2 (rw e at (run-rested ws host)) l
+
+-- ---- words that find what the search finds
+
+module _ (ss : List (List ℕ)) (ws host : List ℕ) (finds : Finds ss ws) (plain : characters host ≡ true) where
+  front-plain : (n : ℕ) (z : List ℕ) → characters z ≡ true → characters (take n host ++ z) ≡ true
+  unfolding characters
+  front-plain n z k = characters-append (take n host) z ∙ rw (all-take (λ x. leb x 127) host n plain, k)
+
+  front-sure : (n : ℕ) (r : Result) → ((z : List ℕ) → characters z ≡ true → plainSearch ss (take n host ++ z) ≡ r) → Sure ss (take n host)
+  unfolding Sure characters all
+  front-sure n r f = λ z k. f z k ∙ sym (f [] refl) ∙ ap (plainSearch ss) (append-nil (take n host))
+
+  stops-at : (q n : ℕ) (r : Result) → Rested ws (sizeOf ws) host (enter ws 1 0 nothing) 0 (rests q n r) → Stops ss host q n
+  unfolding runOver
+  stops-at zero n r (d, e, k, f) =
+      let is : d ≡ n = omega arith in
+      let named : (z : List ℕ) → characters z ≡ true → plainSearch ss (take n host ++ z) ≡ r
+      = λ z p. sym (finds (take n host ++ z) (front-plain n z p)) ∙ ap (λ (w : Walk). ranOf w .0) (rw is at (f z)) in
+      let sure : Sure ss (take n host) = front-sure n r named in
+      record { sure = λ p. sure; left = λ l. refl; no-fewer = λ i first. first .first n sure }
+  stops-at (suc q) n r k =
+      record { sure = λ p. absurd (omega arith); left = λ l. absurd (omega arith); no-fewer = λ i first. omega (arith, first .inside) }
+
+pub run-stops : RunStops
+run-stops = λ ss ws host q n r finds plain e. stops-at ss ws host finds plain q n r (rw e at (run-rested ws host))

@@ -32,7 +32,8 @@ single-never : (k : ℕ) → Sure single (take k (bytes "xa")) → ⊥
 unfolding characters all
 single-never zero d = not-sure single [] (bytes "ab") refl refl d
 single-never (suc zero) d = not-sure single (bytes "x") (bytes "ab") refl refl d
-single-never (suc (suc k)) d = not-sure single (bytes "xa") (bytes "b") refl refl d
+single-never (suc (suc zero)) d = not-sure single (bytes "xa") (bytes "b") refl refl d
+single-never (suc (suc (suc k))) d = not-sure single (bytes "xa") (bytes "b") refl refl d
 
 longer-least : (i : ℕ) → Sure longer (take i (bytes "abcc")) → 2 ≤ i
 unfolding characters all

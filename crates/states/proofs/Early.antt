@@ -3,10 +3,10 @@
 use Prim.Native.Nat.{ℕ, zero, suc, _+_, _≤_}
 use mathlib.Core.Path.{_≡_, refl, sym, ap, _∙_}
 use mathlib.Core.Bool.{Bool, true, false, false≢true}
-use mathlib.Core.List.{List, [], _∷_, _++_, append-assoc, append-nil}
+use mathlib.Core.List.{List, [], _∷_, _++_, append-assoc}
 use native.Mathlib.Omega.{arith}
 use lib.Dec.{eqb, leb}
-use lib.ListN.{length, take, length-append}
+use lib.ListN.{length, length-append}
 use lib.Seq.{take-length}
 use borrow.Author.Tests.{eqb-true, le-leb}
 use Rattle.strlib.proofs.Refusing.{and-both}
@@ -15,7 +15,7 @@ use Rattle.search.proofs.Answering.{found-bounds}
 use Rattle.search.proofs.Prefixes.{stands-prefix}
 use Rattle.search.specs.Search.{isPrefix, closed, lengthOf, Result, nothing, found, onward, atFront, plainSearch}
 use Rattle.states.specs.Node.{live, kindOf, Node, stop, at, reach}
-use Rattle.states.specs.Sure.{Sure, FirstSure, EmptySure, NothingSure}
+use Rattle.states.specs.Sure.{Sure, EmptySure, NothingSure}
 use Rattle.states.proofs.Prefixes.{apart-longer, how, length-snoc}
 use Rattle.states.proofs.Reaching.{kindOf-cons, live≢shut, live≢dead, at≢stop, dead-closed, dead-longer, kind-case, search-front, stopped}
 

@@ -11,7 +11,7 @@ use borrow.Author.Tests.{eq-eqb}
 use Rattle.strlib.specs.Pointer.{all, characters}
 use Rattle.strlib.specs.Quoted.{bytes}
 use Rattle.search.specs.Search.{Result, nothing, found, plainSearch}
-use Rattle.states.specs.Sure.{Sure, FirstSure}
+use Rattle.states.specs.Sure.{Sure}
 use Rattle.states.specs.Examples.{single, longer, inner, null-last, null-first, Examples}
 
 abbrev endOf : Result → ℕ

@@ -17,7 +17,7 @@ use Rattle.table.proofs.Walking.{enter-pos, step-pos, walk-stop}
 use Rattle.table.specs.Run.{Walk, rests, noted, enter, step, walk, runOver}
 use Rattle.states.specs.Node.{Node, stop, at, reach, nextNode, noteAt, nodeNote}
 use Rattle.states.specs.State.{total, stateOf, IsNode, Represents}
-use Rattle.states.specs.Reads.{Ends, RunEnds}
+use Rattle.states.specs.Reads.{RunEnds}
 use Rattle.states.proofs.Prefixes.{length-snoc}
 use Rattle.states.proofs.Reaching.{reach-step, reach-live, reach-length, live-child, stopped}
 use Rattle.states.proofs.Noting.{renoted, note-length, note-count, note-reach, search-start, search-snoc}

@@ -1,6 +1,6 @@
 -- Where a run over any words rests: it has read all, or stopped, and then nothing behind what it read could matter. So words that find what the
 -- search finds stop only where the answer is sure, and a note is followed by one character more. Assumes nothing.
-use Prim.Native.Nat.{ℕ, zero, suc, _+_, _≤_, _<_}
+use Prim.Native.Nat.{ℕ, zero, suc, _+_, _≤_}
 use mathlib.Core.Path.{_≡_, refl, sym, ap, _∙_}
 use mathlib.Core.Bool.{Bool, true, false, _&&_}
 use mathlib.Core.List.{List, [], _∷_, _++_, append-nil}
@@ -13,7 +13,7 @@ use Rattle.strlib.specs.Pointer.{all, characters}
 use Rattle.search.specs.Search.{Result, nothing, found, plainSearch}
 use Rattle.table.proofs.Walking.{walk-bad, walk-stop}
 use Rattle.table.specs.Run.{sizeOf, wordOf, Walk, bad, rests, onlyIf, noted, enter, step, walk, runOver, ranOf}
-use Rattle.states.specs.Sure.{Sure, FirstSure}
+use Rattle.states.specs.Sure.{Sure}
 use Rattle.states.specs.Reads.{Finds, Stops, RunStops, PastNote}
 
 -- the end of what was found is at most m
@@ -26,24 +26,24 @@ ends-later m nothing k = tt
 ends-later m (found j pos1 pos2) k = omega arith
 
 -- a state was entered with m characters read: a stop notes nothing, another state may note what ends with the last of them
-abbrev Entered : ℕ → Walk → Type 0
-Entered m bad = Unit {0}
-Entered m (rests zero n r) = (n ≡ m) × EndsBy n r
-Entered m (rests (suc q) n r) = (n ≡ m) × EndsBy (suc n) r
+abbrev Arrived : ℕ → Walk → Type 0
+Arrived m bad = Unit {0}
+Arrived m (rests zero n r) = (n ≡ m) × EndsBy n r
+Arrived m (rests (suc q) n r) = (n ≡ m) × EndsBy (suc n) r
 
-entered-only : (m : ℕ) (b : Bool) (w : Walk) → Entered m w → Entered m (onlyIf b w)
-entered-only m true w k = k
-entered-only m false w k = tt
+arrived-only : (m : ℕ) (b : Bool) (w : Walk) → Arrived m w → Arrived m (onlyIf b w)
+arrived-only m true w k = k
+arrived-only m false w k = tt
 
 module _ (ws : List ℕ) (size : ℕ) where
-  entered-noted : (q f l n : ℕ) (r : Result) → EndsBy n r → Entered n (noted (suc q) f l n r)
-  entered-noted q zero l n r k = (refl, ends-later n r k)
-  entered-noted q (suc f) l n r k = entered-only n (leb (suc f) 32 && leb l n) (rests (suc q) n (found (suc f) _ (suc n))) (refl, omega arith)
+  arrived-noted : (q f l n : ℕ) (r : Result) → EndsBy n r → Arrived n (noted (suc q) f l n r)
+  arrived-noted q zero l n r k = (refl, ends-later n r k)
+  arrived-noted q (suc f) l n r k = arrived-only n (leb (suc f) 32 && leb l n) (rests (suc q) n (found (suc f) _ (suc n))) (refl, omega arith)
 
-  entered : (q n : ℕ) (r : Result) → EndsBy n r → Entered n (enter ws q n r)
+  arrived : (q n : ℕ) (r : Result) → EndsBy n r → Arrived n (enter ws q n r)
   unfolding enter
-  entered zero n r k = (refl, k)
-  entered (suc q) n r k = entered-noted q (wordOf ws (suc q) 128) (wordOf ws (suc q) 129) n r k
+  arrived zero n r k = (refl, k)
+  arrived (suc q) n r k = arrived-noted q (wordOf ws (suc q) 128) (wordOf ws (suc q) 129) n r k
 
   -- where a run over h rests, from w with m characters read: it has read them all; or it stopped, and would have with anything else behind what it read
   abbrev Rested : List ℕ → Walk → ℕ → Walk → Type 0
@@ -57,7 +57,7 @@ module _ (ws : List ℕ) (size : ℕ) where
   rested-later c h w m (rests zero n r) (d, e, k, f) = (suc d, omega arith, k, f)
   rested-later c h w m (rests (suc q) n r) k = omega arith
 
-  rested : (h : List ℕ) (w : Walk) (m : ℕ) → Entered m w → Rested h w m (walk ws size h w)
+  rested : (h : List ℕ) (w : Walk) (m : ℕ) → Arrived m w → Rested h w m (walk ws size h w)
   unfolding walk step
   rested [] bad m k = tt
   rested [] (rests zero n r) m k = (0, omega (arith, k .0), k .1, λ z. walk-stop ws size z n r)
@@ -66,14 +66,14 @@ module _ (ws : List ℕ) (size : ℕ) where
   rested (c ∷ h) (rests zero n r) m k = rw (walk-stop ws size h n r) (0, omega (arith, k .0), k .1, λ z. walk-stop ws size z n r)
   rested (c ∷ h) (rests (suc q) n r) m k =
       let w : Walk = step ws size (rests (suc q) n r) c in
-      let next : Entered (suc m) w
-      = rw (← k .0) (entered-only (suc n) (ltb (wordOf ws (suc q) c) size) (enter ws (wordOf ws (suc q) c) (suc n) r) (entered (wordOf ws (suc q) c) (suc n) r (k .1))) in
+      let next : Arrived (suc m) w
+      = rw (← k .0) (arrived-only (suc n) (ltb (wordOf ws (suc q) c) size) (enter ws (wordOf ws (suc q) c) (suc n) r) (arrived (wordOf ws (suc q) c) (suc n) r (k .1))) in
       rested-later c h (rests (suc q) n r) m (walk ws size h w) (rested h w (suc m) next)
 
 -- of a whole run
 run-rested : (ws h : List ℕ) → Rested ws (sizeOf ws) h (enter ws 1 0 nothing) 0 (runOver ws h)
 unfolding runOver
-run-rested ws h = rested ws (sizeOf ws) h (enter ws 1 0 nothing) 0 (entered ws (sizeOf ws) 1 0 nothing tt)
+run-rested ws h = rested ws (sizeOf ws) h (enter ws 1 0 nothing) 0 (arrived ws (sizeOf ws) 1 0 nothing tt)
 
 -- ---- what was found
 

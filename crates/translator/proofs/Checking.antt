@@ -17,7 +17,7 @@ use Rattle.strlib.specs.Refusal.{refused, gives, first, outcome}
 use Rattle.strlib.specs.declared.StrPtr.{StrPtr}
 use Rattle.search.specs.Search.{Result, plainSearch}
 use Rattle.table.proofs.Running.{is-sized, run-gave}
-use Rattle.table.specs.Run.{sizeOf, isSized, Walk, runOver, isRest, ranOf, runRefusal, runRule}
+use Rattle.table.specs.Run.{sizeOf, isSized, ranOf, runRefusal, runRule}
 use Rattle.states.proofs.Levelling.{kept-none, kept-frame, kept-trans}
 use Rattle.states.proofs.Rowing.{rows-of}
 use Rattle.states.proofs.Searching.{run-ends}

@@ -5,11 +5,10 @@ use Prim.Native.Nat.{ℕ}
 use lib.ListN.{length}
 use Rattle.strlib.proofs.Refusing.{outcome-gave}
 use Rattle.strlib.specs.Pointer.{textOf}
-use Rattle.strlib.specs.Refusal.{gives}
 use Rattle.search.specs.Search.{plainSearch}
 use Rattle.table.specs.Run.{runRule}
-use Rattle.translator.specs.Translate.{listed, translateRefusal, Table, Words, Translated}
-use Rattle.translator.specs.Early.{EndsEarly, Early}
+use Rattle.translator.specs.Translate.{listed, translateRefusal, Table, Words}
+use Rattle.translator.specs.Early.{Early}
 use Rattle.translator.proofs.Demand3.{noted}
 
 pub early-end : Early

@@ -1,5 +1,5 @@
 -- Where a run over any words rests: it has read all, or stopped, and then nothing behind what it read could matter. So words that find what the
--- search finds stop only where the answer is sure, and a note is followed by one character more. Assumes nothing.
+-- search finds stop only where the answer is sure; and what was found is followed by one character more. Assumes nothing.
 use Prim.Native.Nat.{ℕ, zero, suc, _+_, _≤_}
 use mathlib.Core.Path.{_≡_, refl, sym, ap, _∙_}
 use mathlib.Core.Bool.{Bool, true, false, _&&_}
@@ -14,7 +14,7 @@ use Rattle.search.specs.Search.{Result, nothing, found, plainSearch}
 use Rattle.table.proofs.Walking.{walk-bad, walk-stop}
 use Rattle.table.specs.Run.{sizeOf, wordOf, Walk, bad, rests, onlyIf, noted, enter, step, walk, runOver, ranOf}
 use Rattle.states.specs.Sure.{Sure}
-use Rattle.states.specs.Reads.{Finds, Stops, RunStops, PastNote}
+use Rattle.states.specs.Reads.{Finds, Stops, RunStops, Reads, RunReads}
 
 -- the end of what was found is at most m
 abbrev EndsBy : ℕ → Result → Type 0
@@ -70,19 +70,49 @@ module _ (ws : List ℕ) (size : ℕ) where
       = rw (← k .0) (arrived-only (suc n) (ltb (wordOf ws (suc q) c) size) (enter ws (wordOf ws (suc q) c) (suc n) r) (arrived (wordOf ws (suc q) c) (suc n) r (k .1))) in
       rested-later c h (rests (suc q) n r) m (walk ws size h w) (rested h w (suc m) next)
 
--- of a whole run
-run-rested : (ws h : List ℕ) → Rested ws (sizeOf ws) h (enter ws 1 0 nothing) 0 (runOver ws h)
+-- ---- a whole run
+
+-- from the start, state 1 with no character read
+abbrev RunRested : List ℕ → List ℕ → Walk → Type 0
+RunRested ws h end = Rested ws (sizeOf ws) h (enter ws 1 0 nothing) 0 end
+
+run-rested : (ws h : List ℕ) → RunRested ws h (runOver ws h)
 unfolding runOver
 run-rested ws h = rested ws (sizeOf ws) h (enter ws 1 0 nothing) 0 (arrived ws (sizeOf ws) 1 0 nothing tt)
 
--- ---- what was found
+-- the start is no stop
+abbrev stateIn : Walk → ℕ
+stateIn bad = 1
+stateIn (rests q n r) = q
 
-past-note-at : (ws h : List ℕ) (q n j pos1 pos2 : ℕ) → Rested ws (sizeOf ws) h (enter ws 1 0 nothing) 0 (rests q n (found j pos1 pos2)) → pos2 ≤ length h → pos2 ≤ n
-past-note-at ws h zero n j pos1 pos2 (d, e, k, f) l = k
-past-note-at ws h (suc q) n j pos1 pos2 k l = omega arith
+only-in : (b : Bool) (n : ℕ) (r : Result) → stateIn (onlyIf b (rests 1 n r)) ≡ 1
+only-in true n r = refl
+only-in false n r = refl
 
-pub past-note : PastNote
-past-note = λ ws host q n j pos1 pos2 e l. past-note-at ws host q n j pos1 pos2 (rw e at (run-rested ws host)) l
+noted-in : (f l n : ℕ) (r : Result) → stateIn (noted 1 f l n r) ≡ 1
+noted-in zero l n r = refl
+noted-in (suc f) l n r = only-in (leb (suc f) 32 && leb l n) n _
+
+start-in : (ws : List ℕ) → stateIn (enter ws 1 0 nothing) ≡ 1
+unfolding enter
+start-in ws = noted-in (wordOf ws 1 128) (wordOf ws 1 129) 0 nothing
+
+module _ (ws h : List ℕ) (r : Result) where
+  some-read : (n d : ℕ) → d ≡ n → ((z : List ℕ) → walk ws (sizeOf ws) (take d h ++ z) (enter ws 1 0 nothing) ≡ rests zero n r) → 1 ≤ n
+  unfolding walk
+  some-read n zero e f = absurd (omega (arith, start-in ws, ap stateIn (f [])))
+  some-read n (suc d) e f = omega arith
+
+  ends-behind : (n : ℕ) (s : Result) → EndsBy n s → (j pos1 pos2 : ℕ) → s ≡ found j pos1 pos2 → pos2 ≤ n
+  ends-behind n s k j pos1 pos2 e = rw e at k
+
+  reads-at : (q n : ℕ) → RunRested ws h (rests q n r) → Reads h q n r
+  reads-at zero n (d, e, k, f) =
+      record { left = λ l. refl; first = λ l. some-read n d (omega arith) f; behind = λ j pos1 pos2 p l. ends-behind n r k j pos1 pos2 p }
+  reads-at (suc q) n k = record { left = λ l. absurd (omega arith); first = λ l. omega arith; behind = λ j pos1 pos2 p l. omega arith }
+
+pub run-reads : RunReads
+run-reads = λ ws host q n r e. reads-at ws host r q n (rw e at (run-rested ws host))
 
 -- ---- words that find what the search finds
 
@@ -95,16 +125,15 @@ module _ (ss : List (List ℕ)) (ws host : List ℕ) (finds : Finds ss ws) (plai
   unfolding Sure characters all
   front-sure n r f = λ z k. f z k ∙ sym (f [] refl) ∙ ap (plainSearch ss) (append-nil (take n host))
 
-  stops-at : (q n : ℕ) (r : Result) → Rested ws (sizeOf ws) host (enter ws 1 0 nothing) 0 (rests q n r) → Stops ss host q n
+  stops-at : (q n : ℕ) (r : Result) → RunRested ws host (rests q n r) → Stops ss host q n
   unfolding runOver
   stops-at zero n r (d, e, k, f) =
       let is : d ≡ n = omega arith in
       let named : (z : List ℕ) → characters z ≡ true → plainSearch ss (take n host ++ z) ≡ r
       = λ z p. sym (finds (take n host ++ z) (front-plain n z p)) ∙ ap (λ (w : Walk). ranOf w .0) (rw is at (f z)) in
       let sure : Sure ss (take n host) = front-sure n r named in
-      record { sure = λ p. sure; left = λ l. refl; no-fewer = λ i first. first .first n sure }
-  stops-at (suc q) n r k =
-      record { sure = λ p. absurd (omega arith); left = λ l. absurd (omega arith); no-fewer = λ i first. omega (arith, first .inside) }
+      record { sure = λ p. sure; no-fewer = λ i first. first .first n sure }
+  stops-at (suc q) n r k = record { sure = λ p. absurd (omega arith); no-fewer = λ i first. omega (arith, first .inside) }
 
 pub run-stops : RunStops
 run-stops = λ ss ws host q n r finds plain e. stops-at ss ws host finds plain q n r (rw e at (run-rested ws host))

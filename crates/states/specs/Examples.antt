@@ -24,10 +24,11 @@ pub record Examples : Type 0 where
   -- where the only string ends; never, where it may yet follow
   pub ends : FirstSure single (bytes "abx") 2
   pub never : (k : ℕ) → Sure single (take k (bytes "xa")) → ⊥
-  -- 'abc' stands there too, and is listed later
+  -- 'abc', which goes on there, is listed later and changes nothing
   pub goes-on : FirstSure longer (bytes "abcc") 2
   -- 'bc' is the answer once 'abcd', which would begin before it, has broken off
   pub breaks-off : FirstSure inner (bytes "abcxyz") 4
   -- the null string is found at once, and is the answer once 'ab', which is listed before it, has broken off
   pub null-after : FirstSure null-last (bytes "axy") 2
+  -- listed first, it is the answer at once
   pub null-at-once : FirstSure null-first (bytes "axy") 0

@@ -10,14 +10,14 @@ use Rattle.table.specs.Run.{rests, runOver, ranOf}
 use Rattle.states.specs.State.{Represents}
 use Rattle.states.specs.Sure.{Sure, FirstSure}
 
--- a run over the words ends with the search's answer, and reads at most one character past any place at which that is sure
+-- a run over the words ends with the search's answer, and reads at most one character past each place at which that is sure
 pub record Ends (ss : List (List ℕ)) (ws host : List ℕ) : Type 0 where
   pub state : ℕ
   pub read : ℕ
   pub ran : runOver ws host ≡ rests state read (plainSearch ss host)
   pub early : (k : ℕ) → Sure ss (take k host) → read ≤ k + 1
 
--- so it does over all words that hold the rows of a list
+-- so it does over all words that hold the rows of at most 32 strings of characters, the host being of characters
 abbrev pub RunEnds : Type 0
 RunEnds =
     (ss : List (List ℕ)) (ws host : List ℕ)
@@ -29,15 +29,15 @@ RunEnds =
 
 -- ---- what no words can better
 
--- every run over the words, over a text of whatever length, ends with the search's answer
+-- over every text of characters, of whatever length, the words name the search's answer (bad words: nothing found). Demand 3 asks it of hosts in
+-- stores; words that hold the rows have it of all texts, by `RunEnds`
 abbrev pub Finds : List (List ℕ) → List ℕ → Type 0
 Finds ss ws = (h : List ℕ) → characters h ≡ true → ranOf (runOver ws h) .0 ≡ plainSearch ss h
 
--- a run in state q with n characters read: it stopped only where the answer is sure, it leaves characters unread only if it stopped, and so it
--- has read no fewer than stand before the first sure place
+-- a run in state q with n characters read: it stopped only where the answer is sure, and has read no fewer characters than stand before the first
+-- sure place
 pub record Stops (ss : List (List ℕ)) (host : List ℕ) (q n : ℕ) : Type 0 where
   pub sure : q ≡ 0 → Sure ss (take n host)
-  pub left : n < length host → q ≡ 0
   pub no-fewer : (k : ℕ) → FirstSure ss host k → k ≤ n
 
 abbrev pub RunStops : Type 0
@@ -48,6 +48,14 @@ RunStops =
     → runOver ws host ≡ rests q n r
     → Stops ss host q n
 
--- and any words read the character behind what was found, if there is one: where that ends at the first sure place, one past it
-abbrev pub PastNote : Type 0
-PastNote = (ws host : List ℕ) (q n j pos1 pos2 : ℕ) → runOver ws host ≡ rests q n (found j pos1 pos2) → pos2 ≤ length host → pos2 ≤ n
+-- a run in state q with n characters read and the note r: it leaves characters unread only if it stopped; it reads the first character, if there is
+-- one, and the one behind what it found, if there is one. So where the first sure place is before the first character (k = 0), or where what was
+-- found ends (pos2 = k + 1), it reads k + 1 of a longer host
+pub record Reads (host : List ℕ) (q n : ℕ) (r : Result) : Type 0 where
+  pub left : n < length host → q ≡ 0
+  pub first : 1 ≤ length host → 1 ≤ n
+  pub behind : (j pos1 pos2 : ℕ) → r ≡ found j pos1 pos2 → pos2 ≤ length host → pos2 ≤ n
+
+-- whatever the words are
+abbrev pub RunReads : Type 0
+RunReads = (ws host : List ℕ) (q n : ℕ) (r : Result) → runOver ws host ≡ rests q n r → Reads host q n r

@@ -22,6 +22,6 @@ pub record FirstSure (ss : List (List ℕ)) (host : List ℕ) (k : ℕ) : Type 0
 abbrev pub EmptySure : Type 0
 EmptySure = (host : List ℕ) → FirstSure [] host 0
 
--- and of lists of strings of characters only for an empty one is nothing found ever sure: else a listed string may follow
+-- and if every listed string is of characters, nothing found is sure only for the empty list: else a listed string may follow
 abbrev pub NothingSure : Type 0
 NothingSure = (ss : List (List ℕ)) (t : List ℕ) → all characters ss ≡ true → Sure ss t → plainSearch ss t ≡ nothing → ss ≡ []

@@ -6,10 +6,9 @@ use Rattle.translator.proofs.root_row.Tie as tie
 finish-row-requires : tie.Need-finish-row-requires
 finish-row-requires c κs =
     let f = c .before .before .before in
-    let v = f .before in
-    let k = v .before .before in
+    let k = f .before .before .before in
     let st = k .before .before .before .before .before in
-    (search root-laws, root-open _ _ _ _ (st .pre .0) (search root-laws) _ _ _ (k .closed-by .ensures) (v .root-to .ensures) (f .flat-row .ensures), search root-laws)
+    (search root-laws, root-open _ _ _ _ (st .pre .0) (search root-laws) _ _ _ (k .closed-by .ensures) (search root-laws) (f .flat-row .ensures), search root-laws)
 
 pub root-row-spec : {M : Type 1} → statement M
 root-row-spec =

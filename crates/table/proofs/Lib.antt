@@ -1,2 +1,4 @@
 pub mod Walking
 pub mod Running
+pub mod Resuming
+pub mod Pieces

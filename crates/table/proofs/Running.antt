@@ -10,10 +10,10 @@ use lib.ListN.{length, getD, drop}
 use borrow.Author.Needs.{needs}
 use borrow.Author.Tests.{leb-true, le-leb, lt-leb, lt-ltb, le-ltb}
 use Rattle.strlib.proofs.Pointing.{fits-is, good-is, text-length}
-use Rattle.strlib.proofs.Refusing.{and-both, inTurn, first-is, first-before, first-behind, passed, outcome-no, outcome-gave}
-use Rattle.strlib.specs.Pointer.{textOf, characters, readable}
+use Rattle.strlib.proofs.Refusing.{and-both, first-is, first-before, first-behind, passed, outcome-no, outcome-gave}
+use Rattle.strlib.specs.Pointer.{storeFits, goodIn, textOf, characters, readable}
 use Rattle.strlib.proofs.Texts.{character-at}
-use Rattle.strlib.specs.Refusal.{Outcome, refused, gives, first, outcome}
+use Rattle.strlib.specs.Refusal.{Outcome, refused, gives, first, also, outcome}
 use Rattle.strlib.specs.declared.StrPtr.{StrPtr}
 use Rattle.search.specs.Search.{Result, nothing, found}
 use Rattle.table.specs.Run.{sizeOf, wordOf, isSized, Walk, bad, rests, onlyIf, noted, enter, step, walk, runOver, isRest, ranOf, runChecks, runRefusal, runRule}
@@ -182,34 +182,38 @@ is-sized ws a b c = rw (le-leb 2 (sizeOf ws) a, le-leb (sizeOf ws) 242 b, le-leb
 
 -- ---- enter, then walk
 
-module _ (ws h : List ℕ) (size : ℕ) (e : size ≡ sizeOf ws) (y : isSized ws ≡ true) where
-  pub start-entered : Entered ws size 1 0
-  start-entered = let z = sized-is ws y in record { state = omega (arith, z .low); long = omega (arith, z .long); near = omega arith }
+module _ (ws h : List ℕ) (size q n : ℕ) where
+  pub on-entered : Entered ws size q (n + length h) → Entered ws size q n
+  on-entered k = record { state = k .state; long = k .long; near = omega (arith, k .near) }
 
-  module _ (s : Walked) (d : walkedOf s ≡ enter ws 1 0 (noteBy 0 0 0)) where
-    begun : walkedOf s ≡ enter ws 1 0 nothing
-    begun = d ∙ rw (note-none 0 0 0 refl)
+  module _ (r : Result) (s : Walked) (d : walkedOf s ≡ enter ws q n r) where
+    pub on-bad : s ≡ Bad → bad ≡ walk ws size h (enter ws q n r)
+    on-bad z = sym (walk-bad ws size h) ∙ ap (walk ws size h) (ap walkedOf (sym z) ∙ d)
 
-    over : walk ws size h (walkedOf s) ≡ runOver ws h
-    unfolding runOver
-    over = rw (← e, begun)
+    pub on-walk : (p : Progress) → s ≡ Rests p → (w : Walk) → w ≡ walk ws size h (restsOf p) → w ≡ walk ws size h (enter ws q n r)
+    on-walk p z w x = x ∙ ap (walk ws size h) (ap walkedOf (sym z) ∙ d)
 
-    pub start-bad : s ≡ Bad → bad ≡ runOver ws h
-    start-bad z = sym (walk-bad ws size h) ∙ ap (λ (x : Walked). walk ws size h (walkedOf x)) (sym z) ∙ over
+    pub on-near : Entered ws size q (n + length h) → (p : Progress) → s ≡ Rests p → Entered ws size (p .state) (p .read + length h)
+    on-near k p z =
+        let l = landed size n p (enter ws q n r) (sym (ap walkedOf z) ∙ d) (in-enter ws size q n n r (k .state) (omega arith)) in
+        record { state = l .0; long = k .long; near = omega (arith, l .1, k .near) }
 
-    pub start-on : (p : Progress) → s ≡ Rests p → (w : Walk) → w ≡ walk ws size h (restsOf p) → w ≡ runOver ws h
-    start-on p z w x = x ∙ ap (λ (x : Walked). walk ws size h (walkedOf x)) (sym z) ∙ over
+pub ruleset on-laws = (needs, on-entered, on-bad, on-walk, on-near)
 
-    pub start-near : length h ≤ 65536 → (p : Progress) → s ≡ Rests p → Entered ws size (p .state) (p .read + length h)
-    start-near l p z =
-        let k = start-entered in
-        let q = landed size 0 p (enter ws 1 0 nothing) (sym (ap walkedOf z) ∙ begun) (in-enter ws size 1 0 0 nothing (k .state) (omega arith)) in
-        record { state = q .0; long = k .long; near = omega (arith, q .1) }
+-- ---- from state 1 with nothing read
+
+module _ (ws h : List ℕ) (size : ℕ) (e : size ≡ sizeOf ws) where
+  pub start-entered : isSized ws ≡ true → length h ≤ 65536 → Entered ws size 1 (0 + length h)
+  start-entered y l = let z = sized-is ws y in record { state = omega (arith, z .low); long = omega (arith, z .long); near = omega arith }
+
+  pub start-over : (w : Walk) → w ≡ walk ws size h (enter ws 1 0 (noteBy 0 0 0)) → w ≡ runOver ws h
+  unfolding runOver
+  start-over w x = x ∙ rw (e, note-none 0 0 0 refl)
 
 pub start-first : (ws : List ℕ) → isSized ws ≡ true → 0 < length ws
 start-first ws y = omega (arith, sized-is ws y .long)
 
-pub ruleset start-laws = (needs, start-first, start-entered, start-bad, start-on, start-near)
+pub ruleset start-laws = (needs, start-first, start-entered, start-over)
 
 -- ---- what a run answers
 
@@ -228,9 +232,11 @@ pub ruleset ended-laws = (needs, ended-bad, ended-none, ended-at)
 
 -- ---- the call
 
-pub run-checked : (s : List ℕ) (host : StrPtr) (ws : List ℕ) (k : ℕ) → k ≡ inTurn 0 (beforeChecks s host ws) → k ≡ beforeRun s host ws
+pub run-checked : (s : List ℕ) (host : StrPtr) (ws : List ℕ) (found₁ : ℕ) → found₁ ≡ also 0 3 (storeFits s)
+    → (found₂ : ℕ) → found₂ ≡ also found₁ 1 (goodIn (length s) host) → (found₃ : ℕ) → found₃ ≡ also found₂ 2 (readable s host)
+    → (found₄ : ℕ) → found₄ ≡ also found₃ 10 (isSized ws) → found₄ ≡ beforeRun s host ws
 unfolding beforeRun
-run-checked s host ws k e = first-is (beforeChecks s host ws) refl k e
+run-checked s host ws found₁ e₁ found₂ e₂ found₃ e₃ found₄ e₄ = first-is (beforeChecks s host ws) refl found₄ (rw (e₄, e₃, e₂, e₁))
 
 module _ (s : List ℕ) (host : StrPtr) (ws : List ℕ) where
   abbrev afterwards : List (ℕ × Bool)
@@ -244,6 +250,16 @@ module _ (s : List ℕ) (host : StrPtr) (ws : List ℕ) where
       go : (w : Walk) → ended w ≡ outcome (first ((10, isRest w) ∷ [])) (ranOf w)
       go bad = refl
       go (rests q n r) = refl
+
+  -- over a host that is good and of characters the words decide
+  module _ (fits : storeFits s ≡ true) (good : goodIn (length s) host ≡ true) (plain : readable s host ≡ true) where
+    pub run-plain : isSized ws ≡ true → runRule s host ws ≡ ended (runOver ws (textOf s host))
+    unfolding beforeRun
+    run-plain z = sym (ran (rw (fits, good, plain, z)))
+
+    pub run-unsized : isSized ws ≡ false → runRule s host ws ≡ refused 10
+    unfolding runRefusal runRule outcome
+    run-unsized z = rw (fits, good, plain, z)
 
   -- an answer is given of a host of characters only, and is the run's
   pub run-gave : (a : Result × ℕ) → runRule s host ws ≡ gives a → (characters (textOf s host) ≡ true) × (ranOf (runOver ws (textOf s host)) ≡ a)
@@ -275,4 +291,4 @@ module _ (s : List ℕ) (host : StrPtr) (ws : List ℕ) where
       pub run-given : (t : List ℕ) → t ≡ textOf s host → (w : Walk) → w ≡ runOver ws t → (a : Outcome (Result × ℕ)) → a ≡ ended w → a ≡ runRule s host ws
       run-given t p w d a x = x ∙ ap ended (d ∙ ap (runOver ws) p) ∙ ran (sym e ∙ z)
 
-pub ruleset run-laws = (needs, run-refused, run-sized, run-characters, run-short, run-given)
+pub ruleset run-laws = (needs, run-checked, run-refused, run-sized, run-characters, run-short, run-given)

@@ -1,3 +1,4 @@
 pub mod Run
+pub mod Resume
 pub mod Inner
 pub mod Examples

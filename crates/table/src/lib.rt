@@ -1,4 +1,5 @@
 // The run of a search table: 01, "The search table". Any words and any bytes; a word is looked at only when it is met.
+mod onward;
 mod runs;
 
 ghost use mathlib.Core.Path.{_≡_};
@@ -8,6 +9,10 @@ ghost use lib.ListN.{length};
 ghost use Rattle.strlib.specs.Pointer.{characters};
 ghost use Rattle.table.specs.Run.{enter, step, walk};
 ghost use Rattle.table.specs.Inner.{noteOf, restsOf, walkedOf, Entered};
+pub use onward::fit_together;
+pub use onward::resume;
+pub use onward::size_of;
+pub use runs::check_sized;
 pub use runs::run;
 
 pub struct Note {
@@ -132,4 +137,16 @@ fn walk(text: &[u8], table: &[u16], size: usize, from: Progress) -> Walked
         i += 1;
     }
     Walked::Rests(at)
+}
+
+// The state is entered, and a text is read from there.
+fn read_on(text: &[u8], table: &[u16], size: usize, from: Progress) -> Walked
+    requires { ⌜ Entered (now table) size (from .state) (from .read + length (now text)) × (characters (now text) ≡ true) ⌝ }
+    ensures { λ r. ⌜ walkedOf r ≡ walk (now (table .entry)) size (now (text .entry)) (enter (now (table .entry)) (from .state) (from .read) (noteOf (from .last))) ⌝ }
+{
+    let s = enter(table, size, from);
+    let Walked::Rests(at) = s else {
+        return Walked::Bad;
+    };
+    walk(text, table, size, at)
 }

@@ -13,7 +13,7 @@ ghost use Rattle.table.specs.Run.{sizeOf, isSized, runOver, ranAnswered,
 ghost use Rattle.table.specs.Inner.{walkedOf, ended, beforeRun};
 
 // Whether the first word is a number of states, with a word for each of theirs.
-fn is_sized(table: &[u16]) -> bool
+pub(super) fn is_sized(table: &[u16]) -> bool
     ensures { λ r. ⌜ r ≡ isSized (now (table .entry)) ⌝ }
 {
     if table.len() == 0 {
@@ -29,7 +29,7 @@ fn is_sized(table: &[u16]) -> bool
     1 + super::STATE_WORDS * size <= table.len()
 }
 
-fn check_sized(found: u8, table: &[u16]) -> u8
+pub fn check_sized(found: u8, table: &[u16]) -> u8
     ensures { λ r. ⌜ r ≡ also found 10 (isSized (now (table .entry))) ⌝ }
 {
     if found != 0 {
@@ -53,10 +53,10 @@ fn run_over(text: &[u8], table: &[u16]) -> Walked
     requires { ⌜ (isSized (now table) ≡ true) × (characters (now text) ≡ true) × (length (now text) ≤ 65536) ⌝ }
     ensures { λ r. ⌜ walkedOf r ≡ runOver (now (table .entry)) (now (text .entry)) ⌝ }
 {
-    let size = super::wide(table[0]);
-    let s = super::enter(
+    super::read_on(
+        text,
         table,
-        size,
+        super::wide(table[0]),
         Progress {
             state: 1,
             read: 0,
@@ -66,11 +66,7 @@ fn run_over(text: &[u8], table: &[u16]) -> Walked
                 pos2: 0,
             },
         },
-    );
-    let Walked::Rests(at) = s else {
-        return Walked::Bad;
-    };
-    super::walk(text, table, size, at)
+    )
 }
 
 fn ended(walked: Walked) -> RunAnswer

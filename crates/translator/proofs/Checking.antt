@@ -16,7 +16,7 @@ use Rattle.strlib.specs.Pointer.{textOf, all, characters, readable}
 use Rattle.strlib.specs.Refusal.{refused, gives, first, outcome}
 use Rattle.strlib.specs.declared.StrPtr.{StrPtr}
 use Rattle.search.specs.Search.{Result, plainSearch}
-use Rattle.table.proofs.Running.{is-sized, run-gave}
+use Rattle.table.proofs.Running.{is-sized, run-gave, run-plain}
 use Rattle.table.specs.Run.{sizeOf, isSized, ranOf, runRefusal, runRule}
 use Rattle.states.proofs.Levelling.{kept-none, kept-frame, kept-trans}
 use Rattle.states.proofs.Rowing.{rows-of}
@@ -126,8 +126,9 @@ module _ (ss : List (List ℕ)) (ws : List ℕ) (holds : Represents ss ws) (few 
   table-sized = is-sized ws (omega (arith, holds .size)) (omega (arith, holds .size)) (omega (arith, holds .size, holds .long))
 
   pub table-finds : (t : List ℕ) (host : StrPtr) → Host t host → noteIn (runRule t host ws) ≡ gives (plainSearch ss (textOf t host))
-  unfolding runRule runRefusal outcome readable
-  table-finds t host h = rw (h .fits, h .good, h .read, table-sized, run-ends ss ws (textOf t host) holds few plain (h .read) .ran)
+  unfolding readable
+  table-finds t host h =
+      rw (run-plain t host ws (h .fits) (h .good) (h .read) table-sized, run-ends ss ws (textOf t host) holds few plain (h .read) .ran)
 
   pub table-early : (t : List ℕ) (host : StrPtr) (k n : ℕ) (r : Result) → Sure ss (take k (textOf t host)) → runRule t host ws ≡ gives (r, n) → n ≤ k + 1
   table-early t host k n r sure e =

@@ -9,8 +9,4 @@ run-over-spec =
     (λ c. search start-laws)
     (λ c κs. search start-laws)
     (λ c κs. search start-laws)
-    (λ c. search start-laws)
-    (λ c. search start-laws)
-    (λ c. search start-laws)
-    (λ c κs. search start-laws)
     (λ c. search start-laws))

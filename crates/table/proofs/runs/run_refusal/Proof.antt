@@ -1,4 +1,4 @@
-use Rattle.table.proofs.Running.{run-checked}
+use Rattle.table.proofs.Running.{run-laws}
 use Rattle.table.proofs.runs.run_refusal.Statement.{statement}
 use Rattle.table.proofs.runs.run_refusal.Tie as tie
 
@@ -10,4 +10,4 @@ run-refusal-spec =
     (λ c κs. tt)
     (λ c κs. tt)
     (λ c κs. tt)
-    (λ c. run-checked _ _ _ _ (cc)))
+    (λ c. search run-laws))

@@ -1,0 +1,3 @@
+pub mod Bursting
+pub mod Whole
+pub mod Same

@@ -1,0 +1,82 @@
+-- The run of a table over a host that comes in bursts: 02, W5. What a run carries is the code's `Carried`: state, number read, total delivered,
+-- note, and whether it has stopped. Assumes nothing.
+use Prim.Native.Nat.{ℕ, suc, _+_}
+use mathlib.Core.Bool.{Bool, true, false, _&&_, cond}
+use mathlib.Core.List.{List, [], _∷_, _++_}
+use lib.Dec.{leb, ltb, eqb}
+use lib.ListN.{length}
+use Rattle.strlib.specs.Pointer.{characters}
+use Rattle.strlib.specs.Refusal.{Outcome, refused, gives, first, outcome}
+use Rattle.search.specs.Search.{Result, nothing, found}
+use Rattle.table.specs.Run.{sizeOf, isSized, Walk, bad, rests, isRest, enter, walk}
+use Rattle.bursts.specs.declared.Carried.{Carried}
+use Rattle.bursts.specs.declared.BurstAnswer.{BurstAnswer}
+use Rattle.bursts.specs.declared.BurstAnswer.the-variants.{Given, Refused}
+
+-- the note carried, if there is one: else string, pos1 and pos2 say nothing
+abbrev pub noteOf : Carried → Result
+noteOf c = cond (c .noted) (found (c .string) (c .pos1) (c .pos2)) nothing
+
+-- what is carried in state q with n read, d delivered and the note r: without a note string, pos1 and pos2 are 0
+abbrev pub carriedBy : ℕ → ℕ → ℕ → Result → Bool → Carried
+carriedBy q n d nothing stopped =
+    record { state = q; read = n; total = d; noted = false; string = 0; pos1 = 0; pos2 = 0; stopped = stopped }
+carriedBy q n d (found j pos1 pos2) stopped =
+    record { state = q; read = n; total = d; noted = true; string = j; pos1 = pos1; pos2 = pos2; stopped = stopped }
+
+-- a fresh run: state 1, nothing read, delivered or noted
+unfoldable pub fresh : Carried
+fresh = carriedBy 1 0 0 nothing false
+
+-- a note that a run could make with n characters read; having none is no fault
+unfoldable pub isNote : ℕ → Result → Bool
+isNote n nothing = true
+isNote n (found j pos1 pos2) = (leb 1 j && leb j 32) && (leb pos2 (suc n) && (leb 1 pos1 && leb pos1 pos2))
+
+-- state 0 exactly where the run has stopped
+unfoldable pub isStopped : Bool → ℕ → Bool
+isStopped true q = eqb q 0
+isStopped false q = leb 1 q
+
+-- the state is one of the `size`, and stopped or not as it says; the total is at least the number read; the note is one that a run could make
+unfoldable pub isCarried : ℕ → Carried → Bool
+isCarried size c =
+    ltb (c .state) size && (isStopped (c .stopped) (c .state) && (leb (c .read) (c .total) && isNote (c .read) (noteOf c)))
+
+-- before any of a burst is read, stopped or not: its length, and the total with it; its characters; the table's size; what is carried
+abbrev pub beforeChecks : Carried → List ℕ → List ℕ → List (ℕ × Bool)
+beforeChecks c burst ws =
+    (3, leb (length burst) 300) ∷ (3, leb (c .total + length burst) 65536) ∷ (2, characters burst) ∷ (10, isSized ws)
+    ∷ (10, isCarried (sizeOf ws) c) ∷ []
+
+unfoldable pub beforeBurst : Carried → List ℕ → List ℕ → ℕ
+beforeBurst c burst ws = first (beforeChecks c burst ws)
+
+-- the carried state is entered anew, and the burst is read; a run that has stopped reads nothing (`enter` and `walk` leave state 0)
+unfoldable pub walked : Carried → List ℕ → List ℕ → Walk
+walked c burst ws = walk ws (sizeOf ws) burst (enter ws (c .state) (c .read) (noteOf c))
+
+-- then words as they are met
+abbrev pub burstChecks : Carried → List ℕ → List ℕ → List (ℕ × Bool)
+burstChecks c burst ws = beforeChecks c burst ws ++ ((10, isRest (walked c burst ws)) ∷ [])
+
+unfoldable pub burstRefusal : Carried → List ℕ → List ℕ → ℕ
+burstRefusal c burst ws = first (burstChecks c burst ws)
+
+-- what is carried on, with d delivered, from where the run rests (from words that are no table nothing is)
+abbrev pub carriedOn : ℕ → Walk → Carried
+carriedOn d bad = fresh
+carriedOn d (rests q n r) = carriedBy q n d r (eqb q 0)
+
+-- a refusal is its number alone: what was carried stays as it was
+unfoldable pub burstRule : Carried → List ℕ → List ℕ → Outcome Carried
+burstRule c burst ws = outcome (burstRefusal c burst ws) (carriedOn (c .total + length burst) (walked c burst ws))
+
+-- what the run answers with this carried: the last note, and the number read
+abbrev pub answerOf : Carried → Result × ℕ
+answerOf c = (noteOf c, c .read)
+
+-- the paper's value for each case of the answer
+abbrev pub burstAnswered : BurstAnswer → Outcome Carried
+burstAnswered (Given c) = gives c
+burstAnswered (Refused k) = refused k

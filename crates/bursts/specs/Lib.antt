@@ -1,0 +1,3 @@
+pub mod Bursts
+pub mod Whole
+pub mod Examples

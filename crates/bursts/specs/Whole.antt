@@ -1,0 +1,100 @@
+-- However a host is cut into bursts, the answer with the last is that of the whole: 02, W5. Assumes nothing.
+use Prim.Native.Nat.{ℕ, _+_, _≤_}
+use mathlib.Core.Path.{_≡_}
+use mathlib.Core.Bool.{true}
+use mathlib.Core.List.{List, [], _∷_, _++_}
+use lib.ListN.{length, take}
+use Rattle.strlib.specs.Pointer.{characters, textOf, storeFits, goodIn}
+use Rattle.strlib.specs.Refusal.{Outcome, refused, gives, outcome}
+use Rattle.strlib.specs.declared.StrPtr.{StrPtr}
+use Rattle.search.specs.Search.{Result, plainSearch}
+use Rattle.table.specs.Run.{runRule}
+use Rattle.states.specs.Sure.{Sure}
+use Rattle.translator.specs.Translate.{Table}
+use Rattle.bursts.specs.Bursts.{noteOf, carriedBy, fresh, beforeBurst, burstRule, answerOf}
+use Rattle.bursts.specs.declared.Carried.{Carried}
+
+-- bursts in a row over the same words: the first refusal, or what is carried after the last
+abbrev pub andThen : Outcome Carried → (Carried → Outcome Carried) → Outcome Carried
+andThen (refused k) f = refused k
+andThen (gives c) f = f c
+
+abbrev pub bursts : Carried → List (List ℕ) → List ℕ → Outcome Carried
+bursts c [] ws = gives c
+bursts c (b ∷ bs) ws = andThen (burstRule c b ws) (λ c′. bursts c′ bs ws)
+
+-- the answer with the last of them
+abbrev pub lastAnswer : Outcome Carried → Outcome (Result × ℕ)
+lastAnswer (refused k) = refused k
+lastAnswer (gives c) = gives (answerOf c)
+
+-- the whole host
+abbrev pub joined : List (List ℕ) → List ℕ
+joined [] = []
+joined (b ∷ bs) = b ++ joined bs
+
+-- any words: from a fresh run, one burst at least, none refused, the last answer is the one that the whole host gives, however it was cut
+abbrev pub BurstsWhole : Type 0
+BurstsWhole =
+    (ws b : List ℕ) (bs : List (List ℕ)) (c : Carried) (s : List ℕ) (host : StrPtr)
+    → bursts fresh (b ∷ bs) ws ≡ gives c
+    → storeFits s ≡ true → goodIn (length s) host ≡ true → textOf s host ≡ joined (b ∷ bs)
+    → runRule s host ws ≡ gives (answerOf c)
+
+-- bursts within the limits: at most 300 each
+abbrev pub Short : List (List ℕ) → Type 0
+Short [] = Unit {0}
+Short (b ∷ bs) = (length b ≤ 300) × Short bs
+
+-- a host of characters, cut into bursts of at most 300: one of them is refused exactly if the whole run is, with the same number, and else the last
+-- answer is the whole run's. So no run ever carries what is refused. (The bursts up to any one are bursts too: it is the one in which the whole
+-- run meets the word that is none of a table)
+abbrev pub BurstsSame : Type 0
+BurstsSame =
+    (ws b : List ℕ) (bs : List (List ℕ)) (s : List ℕ) (host : StrPtr)
+    → Short (b ∷ bs) → characters (joined (b ∷ bs)) ≡ true
+    → storeFits s ≡ true → goodIn (length s) host ≡ true → textOf s host ≡ joined (b ∷ bs)
+    → lastAnswer (bursts fresh (b ∷ bs) ws) ≡ runRule s host ws
+
+-- refused bursts among them: what is carried stays as it was
+abbrev pub kept : Carried → Outcome Carried → Carried
+kept c (refused k) = c
+kept c (gives c′) = c′
+
+abbrev pub carriedPast : Carried → List (List ℕ) → List ℕ → Carried
+carriedPast c [] ws = c
+carriedPast c (b ∷ bs) ws = carriedPast (kept c (burstRule c b ws)) bs ws
+
+-- the bursts that were not refused
+abbrev pub ifTaken : Outcome Carried → List ℕ → List (List ℕ)
+ifTaken (refused k) b = []
+ifTaken (gives c) b = b ∷ []
+
+abbrev pub taken : Carried → List (List ℕ) → List ℕ → List (List ℕ)
+taken c [] ws = []
+taken c (b ∷ bs) ws = ifTaken (burstRule c b ws) b ++ taken (kept c (burstRule c b ws)) bs ws
+
+-- so they alone count: what is carried after all is what they give
+abbrev pub BurstsTaken : Type 0
+BurstsTaken = (ws : List ℕ) (bs : List (List ℕ)) (c : Carried) → bursts c (taken c bs ws) ws ≡ gives (carriedPast c bs ws)
+
+-- after the stop a burst is checked like any other, and no word of a state is met: what is carried stays, but for the total
+abbrev pub AfterStop : Type 0
+AfterStop =
+    (c : Carried) (b ws : List ℕ) → c .stopped ≡ true
+    → burstRule c b ws ≡ outcome (beforeBurst c b ws) (carriedBy 0 (c .read) (c .total + length b) (noteOf c) true)
+
+-- bursts over a table of the strings ss: none is refused, the last note is the plain search's answer for them joined, and at most one character is
+-- read past any place at which that answer is sure
+pub record Searched (ss : List (List ℕ)) (words : List ℕ) (bs : List (List ℕ)) : Type 0 where
+  pub last : Carried
+  pub carries : bursts fresh bs words ≡ gives last
+  pub found : answerOf last .0 ≡ plainSearch ss (joined bs)
+  pub early : (k : ℕ) → Sure ss (take k (joined bs)) → answerOf last .1 ≤ k + 1
+
+-- over every table that the translator leaves, and within the limits
+abbrev pub BurstsSearch : Type 0
+BurstsSearch =
+    (ss : List (List ℕ)) (old new : List ℕ) → Table ss old new
+    → (b : List ℕ) (bs : List (List ℕ)) → Short (b ∷ bs) → length (joined (b ∷ bs)) ≤ 65536 → characters (joined (b ∷ bs)) ≡ true
+    → Searched ss new (b ∷ bs)

@@ -1,0 +1,110 @@
+// What is carried: whether a run could carry it, and where it rests.
+use super::Carried;
+use strlib::StrPtr;
+use table::Note;
+use table::Progress;
+ghost use mathlib.Core.Path.{_≡_};
+ghost use mathlib.Core.Bool.{true};
+ghost use lib.Dec.{eqb};
+ghost use Rattle.table.specs.Run.{rests};
+ghost use Rattle.table.specs.Inner.{restsOf, noteOf as lastOf};
+ghost use Rattle.bursts.specs.Bursts.{noteOf, carriedBy, isNote, isStopped, isCarried};
+
+// A note that a run could make.
+fn is_note(c: Carried) -> bool
+    ensures { λ r. ⌜ r ≡ isNote (c .read) (noteOf c) ⌝ }
+{
+    if c.noted {
+        if c.string < 1 {
+            return false;
+        }
+        if StrPtr::LIST_MAX < c.string {
+            return false;
+        }
+        if c.pos1 < 1 {
+            return false;
+        }
+        if c.pos2 < c.pos1 {
+            return false;
+        }
+        return c.pos2 - 1 <= c.read;
+    }
+    true
+}
+
+// State 0 exactly where the run has stopped.
+fn is_stopped(stopped: bool, state: usize) -> bool
+    ensures { λ r. ⌜ r ≡ isStopped stopped state ⌝ }
+{
+    if stopped { state == 0 } else { 1 <= state }
+}
+
+pub(super) fn is_carried(c: Carried, size: usize) -> bool
+    ensures { λ r. ⌜ r ≡ isCarried size c ⌝ }
+{
+    let possible = strlib::both(c.read <= c.total, is_note(c));
+    strlib::both(
+        c.state < size,
+        strlib::both(is_stopped(c.stopped, c.state), possible),
+    )
+}
+
+// Where a run rests that carries this: string 0 for no note.
+pub(super) fn progress_of(c: Carried) -> Progress
+    requires { ⌜ isNote (c .read) (noteOf c) ≡ true ⌝ }
+    ensures { λ r. ⌜ restsOf r ≡ rests (c .state) (c .read) (noteOf c) ⌝ }
+{
+    let state = c.state;
+    let read = c.read;
+    if c.noted {
+        let string = c.string;
+        let pos1 = c.pos1;
+        let pos2 = c.pos2;
+        return Progress {
+            state,
+            read,
+            last: Note { string, pos1, pos2 },
+        };
+    }
+    Progress {
+        state,
+        read,
+        last: Note {
+            string: 0,
+            pos1: 0,
+            pos2: 0,
+        },
+    }
+}
+
+// What is carried on from there.
+pub(super) fn carried_of(at: Progress, total: usize) -> Carried
+    ensures { λ r. ⌜ r ≡ carriedBy (at .state) (at .read) total (lastOf (at .last)) (eqb (at .state) 0) ⌝ }
+{
+    let last = at.last;
+    let state = at.state;
+    let read = at.read;
+    let stopped = state == 0;
+    if last.string == 0 {
+        return Carried {
+            state,
+            read,
+            total,
+            noted: false,
+            string: 0,
+            pos1: 0,
+            pos2: 0,
+            stopped,
+        };
+    }
+    Carried {
+        state,
+        read,
+        total,
+        noted: true,
+        string: last.string,
+        pos1: last.pos1,
+        pos2: last.pos2,
+        stopped,
+    }
+}

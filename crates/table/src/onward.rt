@@ -1,0 +1,50 @@
+// A run that goes on from where it rested, for the crates above: any words, any bytes, any place.
+use super::Progress;
+use super::Walked;
+use strlib::StrPtr;
+ghost use mathlib.Core.Path.{_≡_};
+ghost use Prim.Native.Nat.{_+_};
+ghost use lib.Dec.{leb};
+ghost use Rattle.table.specs.Run.{sizeOf};
+ghost use Rattle.table.specs.Resume.{canResume, resumed};
+ghost use Rattle.table.specs.Inner.{noteOf, walkedOf};
+
+// Word 0, the number of states; 0 where there is none.
+pub fn size_of(table: &[u16]) -> usize
+    ensures { λ r. ⌜ r ≡ sizeOf (now (table .entry)) ⌝ }
+{
+    if table.len() == 0 {
+        return 0;
+    }
+    super::wide(table[0])
+}
+
+// Whether n characters and m more are at most a store's.
+pub fn fit_together(n: usize, m: usize) -> bool
+    ensures { λ r. ⌜ r ≡ leb (n + m) 65536 ⌝ }
+{
+    if StrPtr::STORE_MAX < m {
+        return false;
+    }
+    n <= StrPtr::STORE_MAX - m
+}
+
+fn can_resume(text: &[u8], table: &[u16], state: usize, read: usize) -> bool
+    ensures { λ r. ⌜ r ≡ canResume (now (table .entry)) (now (text .entry)) state read ⌝ }
+{
+    let readable = strlib::both(strlib::are_characters(text), fit_together(read, text.len()));
+    strlib::both(
+        super::runs::is_sized(table),
+        strlib::both(state < size_of(table), readable),
+    )
+}
+
+// The state is entered anew, and the text is read.
+pub fn resume(text: &[u8], table: &[u16], from: Progress) -> Walked
+    ensures { λ r. ⌜ walkedOf r ≡ resumed (now (table .entry)) (now (text .entry)) (from .state) (from .read) (noteOf (from .last)) ⌝ }
+{
+    if can_resume(text, table, from.state, from.read) {
+        return super::read_on(text, table, size_of(table), from);
+    }
+    Walked::Bad
+}

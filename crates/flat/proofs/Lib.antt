@@ -1,3 +1,4 @@
 pub mod StringLaws
 pub mod FindLaws
+pub mod RunLaws
 pub mod ValueLaws

@@ -1,3 +1,4 @@
 pub mod Strings
 pub mod Finds
+pub mod Runs
 pub mod Values

@@ -1,6 +1,7 @@
 // The answers as C takes them: each a flat struct, with the refusal's number first and 0 for none. On a refusal and where nothing was found the
-// other fields are 0. One function for each answer of the library makes the struct.
+// other fields are 0, but for what a burst's run carries. One function for each answer of the library makes the struct.
 mod finds;
+mod runs;
 mod strings;
 mod values;
 
@@ -15,6 +16,8 @@ pub use finds::name;
 pub use finds::name_part;
 pub use finds::note;
 pub use finds::split;
+pub use runs::FlatBurst;
+pub use runs::burst;
 pub use strings::FlatCopied;
 pub use strings::FlatLabel;
 pub use strings::FlatPart;

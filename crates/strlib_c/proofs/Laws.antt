@@ -21,10 +21,12 @@ use Rattle.search.specs.declared.Split.{Split}
 use Rattle.charset.specs.declared.CharAt.{CharAt}
 use Rattle.number.specs.Number.{writeRule}
 use Rattle.translator.specs.Translate.{Translated}
+use Rattle.bursts.specs.declared.Carried.{Carried}
 use Rattle.desk.specs.Label.{namePart}
 use Rattle.desk.specs.declared.cue.Cue.{Cue}
 use Rattle.flat.specs.Strings.{flatWith, flatString, flatPart, flatLabel, deskLabel}
 use Rattle.flat.specs.Finds.{flatMatch, flatSplit, flatNote, flatCharacter, flatName}
+use Rattle.flat.specs.Runs.{flatBurst}
 use Rattle.flat.specs.Values.{flatComparison, flatNumber, flatCue, flatSize, flatDone, done}
 use Rattle.flat.specs.declared.strings.FlatString.{FlatString}
 use Rattle.flat.specs.declared.strings.FlatPart.{FlatPart}
@@ -34,6 +36,7 @@ use Rattle.flat.specs.declared.finds.FlatSplit.{FlatSplit}
 use Rattle.flat.specs.declared.finds.FlatNote.{FlatNote}
 use Rattle.flat.specs.declared.finds.FlatCharacter.{FlatCharacter}
 use Rattle.flat.specs.declared.finds.FlatName.{FlatName}
+use Rattle.flat.specs.declared.runs.FlatBurst.{FlatBurst}
 use Rattle.flat.specs.declared.values.FlatComparison.{FlatComparison}
 use Rattle.flat.specs.declared.values.FlatNumber.{FlatNumber}
 use Rattle.flat.specs.declared.values.FlatCue.{FlatCue}
@@ -58,6 +61,9 @@ split-is = keeps flatSplit
 
 pub note-is : (r : FlatNote) (x y : Outcome (Result × ℕ)) → r ≡ flatNote x → x ≡ y → r ≡ flatNote y
 note-is = keeps flatNote
+
+pub burst-is : (given : Carried) (r : FlatBurst) (x y : Outcome Carried) → r ≡ flatBurst given x → x ≡ y → r ≡ flatBurst given y
+burst-is given = keeps (flatBurst given)
 
 pub character-is : (r : FlatCharacter) (x y : Outcome (Sought CharAt)) → r ≡ flatCharacter x → x ≡ y → r ≡ flatCharacter y
 character-is = keeps flatCharacter
@@ -128,6 +134,7 @@ pub ruleset flat-laws = (
   match-is,
   split-is,
   note-is,
+  burst-is,
   character-is,
   number-is,
   cue-is,

@@ -1,11 +1,15 @@
-// The search table: translating a list, and the run over a host.
+// The search table: translating a list, the run over a host, and over one that comes in bursts.
+use bursts::Carried;
+use flat::FlatBurst;
 use flat::FlatList;
 use flat::FlatNote;
 use strlib::StrPtr;
 ghost use mathlib.Core.Path.{_≡_};
 ghost use Rattle.table.specs.Run.{runRule};
 ghost use Rattle.translator.specs.Translate.{Translated};
+ghost use Rattle.bursts.specs.Bursts.{fresh, burstRule};
 ghost use Rattle.flat.specs.Finds.{flatNote};
+ghost use Rattle.flat.specs.Runs.{flatBurst};
 ghost use Rattle.flat.specs.Values.{done};
 
 #[no_mangle]
@@ -21,4 +25,18 @@ pub extern "C" fn strlib_run(store: &[u8], host: StrPtr, table: &[u16]) -> FlatN
     ensures { λ r. ⌜ r ≡ flatNote (runRule (now (store .entry)) host (now (table .entry))) ⌝ }
 {
     flat::note(table::run(store, host, table))
+}
+
+#[no_mangle]
+pub extern "C" fn strlib_fresh_run() -> Carried
+    ensures { λ r. ⌜ r ≡ fresh ⌝ }
+{
+    Carried::fresh()
+}
+
+#[no_mangle]
+pub extern "C" fn strlib_burst(carried: Carried, burst: &[u8], table: &[u16]) -> FlatBurst
+    ensures { λ r. ⌜ r ≡ flatBurst carried (burstRule carried (now (burst .entry)) (now (table .entry))) ⌝ }
+{
+    flat::burst(carried, bursts::burst(carried, burst, table))
 }

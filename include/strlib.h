@@ -1,9 +1,9 @@
 /* Pathferrous: the calls of the string library and of the desk, for C.
  *
  * Every call takes any bytes, pointers and numbers and checks them itself. A refusal gives its number (README.md has the table), changes
- * nothing that was lent, and leaves the answer's other fields 0; 0 is no refusal. Memory is lent as a pointer and a number of elements; with
- * the number 0 the pointer may be NULL. What is lent to be written (a pointer without const) shares no byte with anything else lent to the
- * same call. Each call is proved to answer what its rule in crates/<name>/specs says.
+ * nothing that was lent, and leaves the answer's other fields 0, but for strlib_burst's (see strlib_burst_answer); 0 is no refusal. Memory is
+ * lent as a pointer and a number of elements; with the number 0 the pointer may be NULL. What is lent to be written (a pointer without const)
+ * shares no byte with anything else lent to the same call. Each call is proved to answer what its rule in crates/<name>/specs says.
  */
 #ifndef STRLIB_H
 #define STRLIB_H
@@ -21,6 +21,7 @@ enum {
     STRLIB_LIST_MAX = 32,             /* strings in a list */
     STRLIB_LIST_CHARACTERS_MAX = 240, /* their characters together, where the list is translated */
     STRLIB_TABLE_MIN = 31461,         /* words in a table's room */
+    STRLIB_BURST_MAX = 300,           /* characters in a burst */
     STRLIB_BLOCK_WORDS = 128          /* words in a block of character sets */
 };
 
@@ -35,6 +36,10 @@ typedef struct { strlib_ptr items[STRLIB_LIST_MAX]; size_t count; } strlib_list;
 
 /* Where a checkpointed join resumes: a string of the list and a character of it, both from 1. */
 typedef struct { size_t string, character; } strlib_place;
+
+/* What a run carries from burst to burst: its state, the number of characters read, the total delivered, those after the stop included, its
+ * last note if `noted` (else string, pos1 and pos2 say nothing; answered, they are 0), and whether it has stopped. */
+typedef struct { size_t state, read, total; bool noted; size_t string, pos1, pos2; bool stopped; } strlib_carried;
 
 /* ---- what is answered */
 
@@ -63,6 +68,10 @@ typedef struct { uint8_t refusal; bool found; size_t number; strlib_ptr front, b
  * table's run reads at most one character past the first place at which the answer is sure, whatever follows: for a list of no strings at
  * most one. Refusal 2 is of the whole host, read or not. */
 typedef struct { uint8_t refusal; bool found; size_t string, pos1, pos2, read; } strlib_note;
+
+/* What is carried on, with the answer for all that was delivered. On a refusal it is what was given, the one field that a refusal does not
+ * leave 0: `carried = answer.carried` is right in either case. */
+typedef struct { uint8_t refusal; strlib_carried carried; } strlib_burst_answer;
 
 /* where found: a host character's code and position (from 1) */
 typedef struct { uint8_t refusal; bool found; uint8_t code; size_t position; } strlib_character;
@@ -125,10 +134,17 @@ strlib_match strlib_search(const uint8_t *store, size_t store_length, strlib_ptr
 strlib_split strlib_search_match_after(const uint8_t *store, size_t store_length, strlib_ptr host, strlib_list list);  /* before | match, after */
 strlib_split strlib_search_before_match(const uint8_t *store, size_t store_length, strlib_ptr host, strlib_list list); /* before, match | after */
 
-/* ---- the search table: translate once (refusals 3, 1, 2, 9), run over any number of hosts (3, 1, 2, 10) */
+/* ---- the search table: translate once (refusals 3, 1, 2, 9), run over any number of hosts (3, 1, 2, 10), also in bursts (3, 2, 10) */
 
 uint8_t strlib_translate(const uint8_t *store, size_t store_length, strlib_list list, uint16_t *table, size_t table_length);
 strlib_note strlib_run(const uint8_t *store, size_t store_length, strlib_ptr host, const uint16_t *table, size_t table_length);
+
+/* A host in bursts of 0 to 300 characters, 65,536 in all: from a fresh run, if none is refused and all are given the same table, the answer with
+ * the last burst, which may be empty, is the whole host's, however it was cut. Each burst enters the carried state anew, unless the run has
+ * stopped, and is wholly checked before any of it is read, after the stop too: 3 (its length, the total with it), 2, 10 (the table's size, then
+ * what is carried, then words as they are met). */
+strlib_carried strlib_fresh_run(void);
+strlib_burst_answer strlib_burst(strlib_carried carried, const uint8_t *burst, size_t burst_length, const uint16_t *table, size_t table_length);
 
 /* ---- character sets: refusals 3, and 1, 2 where there is a string
  * A block is exactly 128 words, one a character; a mask, under 2^36, names tables by its bits. */

@@ -86,6 +86,28 @@ pub struct NoteAnswer {
     pub read: usize,
 }
 
+/// What a run carries from burst to burst; `string`, `pos1` and `pos2` say nothing unless `noted`.
+#[repr(C)]
+#[derive(Clone, Copy, Debug, Default, PartialEq, Eq)]
+pub struct Carried {
+    pub state: usize,
+    pub read: usize,
+    pub total: usize,
+    pub noted: bool,
+    pub string: usize,
+    pub pos1: usize,
+    pub pos2: usize,
+    pub stopped: bool,
+}
+
+/// On a refusal `carried` is what was given.
+#[repr(C)]
+#[derive(Clone, Copy, Debug, Default, PartialEq, Eq)]
+pub struct BurstAnswer {
+    pub refusal: u8,
+    pub carried: Carried,
+}
+
 #[repr(C)]
 #[derive(Clone, Copy, Debug, Default, PartialEq, Eq)]
 pub struct CharacterAnswer {
@@ -260,6 +282,15 @@ extern "C" {
         table: *const u16,
         table_length: usize,
     ) -> NoteAnswer;
+
+    pub fn strlib_fresh_run() -> Carried;
+    pub fn strlib_burst(
+        carried: Carried,
+        burst: *const u8,
+        burst_length: usize,
+        table: *const u16,
+        table_length: usize,
+    ) -> BurstAnswer;
 
     pub fn strlib_clear_tables(block: *mut u64, block_length: usize, mask: u64) -> u8;
     pub fn strlib_fill_tables(block: *mut u64, block_length: usize, mask: u64) -> u8;

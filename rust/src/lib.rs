@@ -4,7 +4,7 @@
 //! takes any bytes, pointers and numbers and checks them itself. A [`Refusal`] changes nothing that was lent.
 //!
 //! `rt staticlib strlib_c` in the folder above makes the library that this package links; `cargo test --release` compares every
-//! call with document 01.
+//! call with documents 01 and 02.
 //!
 //! ```
 //! use strlib::{search, StrList, StrPtr};
@@ -20,6 +20,7 @@
 //! assert_eq!((found.number, found.matched), (3, StrPtr::new(2, 2, 2)));
 //! ```
 
+mod bursts;
 mod charset;
 mod comparing;
 mod copying;
@@ -32,6 +33,7 @@ mod pointer;
 mod searching;
 mod table;
 
+pub use bursts::{BurstRun, Carried};
 pub use charset::{
     add_characters, clear_tables, fill_tables, find_first, find_last, remove_characters, Character,
 };
@@ -45,7 +47,8 @@ pub use desk::{add_label, find_label, label_name, read_cue, read_labels, Cue, Na
 pub use editing::{replace, reverse, reverse_from};
 pub use number::{read_number, write_number};
 pub use pointer::{
-    Refusal, StrList, StrPtr, BLOCK_WORDS, LIST_CHARACTERS_MAX, LIST_MAX, STORE_MAX, TABLE_MIN,
+    Refusal, StrList, StrPtr, BLOCK_WORDS, BURST_MAX, LIST_CHARACTERS_MAX, LIST_MAX, STORE_MAX,
+    TABLE_MIN,
 };
 pub use searching::{search, search_before_match, search_match_after, Match, Split};
 pub use table::{run, translate, Note, Run};

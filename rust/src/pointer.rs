@@ -10,6 +10,8 @@ pub const LIST_MAX: usize = 32;
 pub const LIST_CHARACTERS_MAX: usize = 240;
 /// Words in a table's room.
 pub const TABLE_MIN: usize = 31_461;
+/// Characters in a burst.
+pub const BURST_MAX: usize = 300;
 /// Words in a block of character sets.
 pub const BLOCK_WORDS: usize = 128;
 

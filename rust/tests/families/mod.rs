@@ -1,5 +1,6 @@
 //! Tests by family of calls.
 
+mod bursts;
 mod charset;
 mod comparing;
 mod copying;

@@ -42,6 +42,7 @@ fn null_with_0_elements_is_empty() {
         same(|m| strlib_search_before_match(m, 0, p, list));
         same(|m| strlib_translate(m, 0, list, m.cast(), 0));
         same(|m| strlib_run(m, 0, p, m.cast(), 0));
+        same(|m| strlib_burst(strlib_fresh_run(), m, 0, m.cast(), 0));
         same(|m| strlib_clear_tables(m.cast(), 0, 1));
         same(|m| strlib_fill_tables(m.cast(), 0, 1));
         same(|m| strlib_add_characters(m, 0, p, m.cast(), 0, 1));
@@ -63,4 +64,15 @@ fn null_with_0_elements_is_empty() {
     assert_eq!(translated, 0);
     let note = unsafe { strlib_run(null_mut(), 0, p, words.as_ptr(), words.len()) };
     assert_eq!((note.refusal, note.found, note.string), (0, true, 1));
+    let burst = unsafe {
+        strlib_burst(
+            strlib_fresh_run(),
+            null_mut(),
+            0,
+            words.as_ptr(),
+            words.len(),
+        )
+    };
+    let carried = burst.carried;
+    assert_eq!((burst.refusal, carried.noted, carried.string), (0, true, 1));
 }

@@ -10,14 +10,14 @@ use strlib::{ffi, Note, Refusal, Run, StrList, StrPtr, LIST_CHARACTERS_MAX, TABL
 const ROOM: usize = 31_600;
 
 /// Three tables with the same words: one for each way to call, and the words as they were.
-struct Rooms {
+pub(super) struct Rooms {
     wrapper: Vec<u16>,
-    c: Vec<u16>,
+    pub(super) c: Vec<u16>,
     before: Vec<u16>,
 }
 
 impl Rooms {
-    fn new() -> Rooms {
+    pub(super) fn new() -> Rooms {
         let noise: Vec<u16> = (0..ROOM).map(|i| (i as u16).wrapping_mul(40_503)).collect();
         Rooms {
             wrapper: noise.clone(),
@@ -27,7 +27,7 @@ impl Rooms {
     }
 
     /// Translates both ways. A refusal leaves every word; else S is 2 to 242 and every word past 1 + 130S stays.
-    fn translate(
+    pub(super) fn translate(
         &mut self,
         round: &mut Round,
         store: &Vec<u8>,
@@ -68,7 +68,7 @@ impl Rooms {
 }
 
 /// A host made of the list's strings, beginnings of them and other characters.
-fn host_of(rng: &mut Rng, strings: &[&[u8]]) -> Vec<u8> {
+pub(super) fn host_of(rng: &mut Rng, strings: &[&[u8]]) -> Vec<u8> {
     let mut host = Vec::new();
     for _ in 0..rng.up_to(8) {
         if strings.is_empty() || rng.one_in(4) {
@@ -181,7 +181,7 @@ fn a_translated_list_finds_what_the_plain_search_finds() {
 }
 
 /// A translated table with up to 40 words changed, most of them in a way that still makes it a table.
-fn damaged(rng: &mut Rng, table: &[u16]) -> Vec<u16> {
+pub(super) fn damaged(rng: &mut Rng, table: &[u16]) -> Vec<u16> {
     let states = table[0] as usize;
     let mut words = table[..1 + 130 * states].to_vec();
     for _ in 0..rng.up_to(40) {
@@ -205,7 +205,7 @@ const RUN_KINDS: [&str; 4] = [
 ];
 
 /// Words in which the rows of a few letters are good, everything else being noise; then damaged in some rounds.
-fn made_up(rng: &mut Rng, letters: &[u8]) -> Vec<u16> {
+pub(super) fn made_up(rng: &mut Rng, letters: &[u8]) -> Vec<u16> {
     let states = 2 + rng.below(5);
     let mut words: Vec<u16> = (0..1 + 130 * states).map(|_| rng.next() as u16).collect();
     words[0] = states as u16;
@@ -248,7 +248,7 @@ fn made_up(rng: &mut Rng, letters: &[u8]) -> Vec<u16> {
 }
 
 /// Words that are small numbers, of any length; S may be in range.
-fn random_words(rng: &mut Rng) -> Vec<u16> {
+pub(super) fn random_words(rng: &mut Rng) -> Vec<u16> {
     let length = rng.up_to(800);
     let most = rng.pick(&[2, 3, 4, 7, 300]);
     (0..length).map(|_| rng.below(most) as u16).collect()

@@ -2,6 +2,7 @@
 //!
 //! Each call gives its answer or a refusal; what it was lent to write it changes as the document says. Naive on purpose.
 
+pub mod bursts;
 pub mod charset;
 pub mod comparing;
 pub mod copying;

@@ -38,7 +38,7 @@ typedef struct { strlib_ptr items[STRLIB_LIST_MAX]; size_t count; } strlib_list;
 typedef struct { size_t string, character; } strlib_place;
 
 /* What a run carries from burst to burst: its state, the number of characters read, the total delivered, those after the stop included, its
- * last note if `noted` (else string, pos1 and pos2 say nothing; answered, they are 0), and whether it has stopped. */
+ * last note if `noted` (else string, pos1 and pos2 say nothing), and whether it has stopped. The bools are C's, 0 or 1. */
 typedef struct { size_t state, read, total; bool noted; size_t string, pos1, pos2; bool stopped; } strlib_carried;
 
 /* ---- what is answered */
@@ -69,8 +69,9 @@ typedef struct { uint8_t refusal; bool found; size_t number; strlib_ptr front, b
  * most one. Refusal 2 is of the whole host, read or not. */
 typedef struct { uint8_t refusal; bool found; size_t string, pos1, pos2, read; } strlib_note;
 
-/* What is carried on, with the answer for all that was delivered. On a refusal it is what was given, the one field that a refusal does not
- * leave 0: `carried = answer.carried` is right in either case. */
+/* What is carried on; noted, string, pos1, pos2 and read are the answer for all that was delivered (without a note the first four are 0). On a
+ * refusal it is what was given, word for word, the one field that a refusal does not leave 0: so a caller may go on from it in either case, and
+ * has an answer to this burst only where the refusal is 0. */
 typedef struct { uint8_t refusal; strlib_carried carried; } strlib_burst_answer;
 
 /* where found: a host character's code and position (from 1) */
@@ -139,10 +140,11 @@ strlib_split strlib_search_before_match(const uint8_t *store, size_t store_lengt
 uint8_t strlib_translate(const uint8_t *store, size_t store_length, strlib_list list, uint16_t *table, size_t table_length);
 strlib_note strlib_run(const uint8_t *store, size_t store_length, strlib_ptr host, const uint16_t *table, size_t table_length);
 
-/* A host in bursts of 0 to 300 characters, 65,536 in all: from a fresh run, if none is refused and all are given the same table, the answer with
- * the last burst, which may be empty, is the whole host's, however it was cut. Each burst enters the carried state anew, unless the run has
- * stopped, and is wholly checked before any of it is read, after the stop too: 3 (its length, the total with it), 2, 10 (the table's size, then
- * what is carried, then words as they are met). */
+/* A host in bursts of 0 to 300 characters, 65,536 in all: from a fresh run, if none is refused and all are given the same table words, the answer
+ * with the last burst, which may be empty, is the whole host's, however it was cut. A run that has not stopped enters its carried state anew at
+ * each burst. Refusals, of a run that has stopped too: 3 (the burst's length; the total with it), 2, 10 (the table's size), 10 (what is carried: a
+ * state that the table has not, state 0 and not stopped or another and stopped, a total under the number read, or a note with string outside 1 to
+ * 32, pos2 over read + 1 or pos1 outside 1 to pos2); then, as words are met, 10. Any values may be given as carried. */
 strlib_carried strlib_fresh_run(void);
 strlib_burst_answer strlib_burst(strlib_carried carried, const uint8_t *burst, size_t burst_length, const uint16_t *table, size_t table_length);
 

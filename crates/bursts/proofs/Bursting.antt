@@ -1,6 +1,6 @@
 -- Laws of a burst's code: each return is a clause of the rule, and what was checked is what a run that goes on asks. Assumes nothing.
 use mathlib.Core.Path.{_≡_, refl, sym, ap, _∙_}
-use mathlib.Core.Bool.{Bool, true, false, cond, _&&_, and-true, and-false}
+use mathlib.Core.Bool.{Bool, true, false, _&&_, and-true, and-false}
 use mathlib.Core.List.{List, [], _∷_}
 use Prim.Native.Nat.{ℕ, zero, suc, _+_, _-_, _≤_, _<_}
 use native.Mathlib.Omega.{arith}
@@ -11,12 +11,12 @@ use lib.ListN.{length}
 use borrow.Author.Needs.{needs}
 use borrow.Author.Tests.{leb-true, ltb-true, le-leb, lt-leb}
 use Rattle.strlib.proofs.Pointing.{leb-same}
-use Rattle.strlib.proofs.Refusing.{and-both, first-is, passed, first-before, first-behind, outcome-no, outcome-yes}
+use Rattle.strlib.proofs.Refusing.{and-both, first-is, passed, first-before, first-behind, outcome-no}
 use Rattle.strlib.specs.Pointer.{characters}
 use Rattle.strlib.specs.Refusal.{Outcome, refused, gives, first, also, outcome}
 use Rattle.search.specs.Search.{Result, nothing, found}
 use Rattle.table.proofs.Resuming.{resumed-is}
-use Rattle.table.specs.Run.{sizeOf, isSized, Walk, bad, rests, isRest, enter, walk}
+use Rattle.table.specs.Run.{sizeOf, isSized, Walk, bad, rests, isRest}
 use Rattle.table.specs.Resume.{resumed}
 use Rattle.table.specs.Inner.{noteBy, restsOf, walkedOf, noteOf as lastOf}
 use Rattle.table.specs.declared.Progress.{Progress}

@@ -2,7 +2,7 @@
 -- if the whole run is, and over a translated table never. Assumes nothing.
 use Prim.Native.Nat.{ℕ, zero, suc, _+_, _≤_, _<_}
 use mathlib.Core.Path.{_≡_, refl, sym, ap, _∙_}
-use mathlib.Core.Bool.{Bool, true, false}
+use mathlib.Core.Bool.{true, false}
 use mathlib.Core.List.{List, [], _∷_, _++_}
 use native.Mathlib.Omega.{arith}
 use lib.Dec.{leb, eqb}
@@ -24,10 +24,10 @@ use Rattle.table.specs.Inner.{ended}
 use Rattle.translator.proofs.Demand3.{noted}
 use Rattle.translator.specs.Translate.{Host, Table}
 use Rattle.bursts.specs.Bursts.{noteOf, carriedBy, fresh, isNote, isStopped, isCarried, beforeBurst, walked, burstRule, answerOf}
-use Rattle.bursts.specs.Whole.{andThen, bursts, lastAnswer, joined, Short, BurstsSame, Searched, BurstsSearch}
+use Rattle.bursts.specs.Whole.{andThen, bursts, lastAnswer, joined, Short, BurstsSame, BurstsCarried, Searched, BurstsSearch}
 use Rattle.bursts.specs.declared.Carried.{Carried}
 use Rattle.bursts.proofs.Bursting.{answerAt, burst-yes, burst-refused}
-use Rattle.bursts.proofs.Whole.{place, place-by, again-walked}
+use Rattle.bursts.proofs.Whole.{place, place-by, gives≢refused, took, again-walked, outcome-case}
 
 -- ---- what a run carries
 
@@ -65,6 +65,19 @@ carry-good ws d c k =
       note-good (c .read) (noteOf c) (k .note),
     )
 
+-- where a burst leads from there
+module _ (ws : List ℕ) (b : List ℕ) (d : ℕ) (c : Carried) (k : Runs ws d c) where
+  rests-in : RestsIn (sizeOf ws) (d + length b) (walked c b ws)
+  unfolding walked
+  rests-in =
+      in-walk ws (sizeOf ws) d b (enter ws (c .state) (c .read) (noteOf c))
+      (in-enter ws (sizeOf ws) (c .state) (c .read) d (noteOf c) (k .state) (k .reads))
+
+  well-noted : WellNoted (walked c b ws)
+  unfolding walked
+  well-noted =
+      well-walk ws (sizeOf ws) b (enter ws (c .state) (c .read) (noteOf c)) (well-enter ws (c .state) (c .read) (noteOf c) (k .note))
+
 -- from where a run rests, the answer with the last of the bursts is that of the walk over them joined
 abbrev Continues : List ℕ → List (List ℕ) → ℕ → Type 0
 Continues ws bs d =
@@ -93,13 +106,9 @@ module _ (ws : List ℕ) (sized : isSized ws ≡ true) where
       → lastAnswer (bursts c (b ∷ bs) ws) ≡ ended (walk ws (sizeOf ws) (b ++ joined bs) (enter ws (c .state) (c .read) (noteOf c)))
   unfolding walked
   one-more b bs d c k short total plain ih =
-      let from = enter ws (c .state) (c .read) (noteOf c) in
       rw (burst-good b d c k short total plain)
-      (go-on bs (d + length b) ih (walked c b ws)
-      (in-walk ws (sizeOf ws) d b from (in-enter ws (sizeOf ws) (c .state) (c .read) d (noteOf c) (k .state) (k .reads)))
-      (well-walk ws (sizeOf ws) b from (well-enter ws (c .state) (c .read) (noteOf c) (k .note)))
-      (again-walked c b ws)
-      ∙ sym (ap ended (walk-append ws (sizeOf ws) b (joined bs) from)))
+      (go-on bs (d + length b) ih (walked c b ws) (rests-in ws b d c k) (well-noted ws b d c k) (again-walked c b ws)
+      ∙ sym (ap ended (walk-append ws (sizeOf ws) b (joined bs) (enter ws (c .state) (c .read) (noteOf c)))))
 
   rest-same : (bs : List (List ℕ)) (d : ℕ) → Short bs → d + length (joined bs) ≤ 65536 → characters (joined bs) ≡ true → Continues ws bs d
   unfolding walk again
@@ -110,11 +119,36 @@ module _ (ws : List ℕ) (sized : isSized ws ≡ true) where
       λ c k a. one-more b bs d c k (short .0) (omega arith) (p .0) (rest-same bs (d + length b) (short .1) (omega arith) (p .1))
       ∙ ap (λ (w : Walk). ended (walk ws (sizeOf ws) (b ++ joined bs) w)) a
 
+-- ---- what a run carries is no fault
+
+carries-on : (ws : List ℕ) (d : ℕ) (w : Walk) (c : Carried) → answerAt d w ≡ gives c → RestsIn (sizeOf ws) d w → WellNoted w → Runs ws d c
+carries-on ws d bad c e i v = let z : _≡_ {A = ℕ} 0 1 = cc in absurd (omega arith)
+carries-on ws d (rests q n r) c e i v = let z : carriedBy q n d r (eqb q 0) ≡ c = cc in rw z at (runs-by ws q n d r (i .0) (i .1) v)
+
+module _ (ws : List ℕ) where
+  burst-carries : (b : List ℕ) (d : ℕ) (c c′ : Carried) → Runs ws d c → burstRule c b ws ≡ gives c′ → Runs ws (d + length b) c′
+  burst-carries b d c c′ k e =
+      carries-on ws (d + length b) (walked c b ws) c′ (rw (← k .total) (sym (burst-yes c b ws (took c b ws c′ e .none)) ∙ e))
+      (rests-in ws b d c k) (well-noted ws b d c k)
+
+  rest-carries : (bs : List (List ℕ)) (d : ℕ) (c c′ : Carried) → Runs ws d c → bursts c bs ws ≡ gives c′ → isCarried (sizeOf ws) c′ ≡ true
+  rest-carries [] d c c′ k e = let z : c ≡ c′ = cc in rw z at (carry-good ws d c k)
+  rest-carries (b ∷ bs) d c c′ k e =
+      outcome-case (burstRule c b ws)
+      (λ n p. absurd (gives≢refused n c′ (rw p at e)))
+      (λ c₁ p. rest-carries bs (d + length b) c₁ c′ (burst-carries b d c c₁ k p) (rw p at e))
+
 -- ---- from a fresh run
 
 fresh-runs : (ws : List ℕ) → isSized ws ≡ true → Runs ws 0 fresh
 unfolding fresh
 fresh-runs ws z = record { state = omega (arith, sized-is ws z .low); stopped = refl; total = refl; reads = omega arith; note = tt }
+
+pub bursts-carried : BurstsCarried
+bursts-carried ws b bs c e =
+    outcome-case (burstRule fresh b ws)
+    (λ n p. absurd (gives≢refused n c (rw p at e)))
+    (λ c₁ p. rest-carries ws (b ∷ bs) 0 fresh c (fresh-runs ws (took fresh b ws c₁ p .ok .sized)) e)
 
 -- the bursts joined as one text, whatever store holds it
 from-fresh : (ws b : List ℕ) (bs : List (List ℕ)) → isSized ws ≡ true → Short (b ∷ bs) → length (joined (b ∷ bs)) ≤ 65536 → characters (joined (b ∷ bs)) ≡ true

@@ -2,7 +2,7 @@
 -- anew. Assumes nothing.
 use Prim.Native.Nat.{ℕ, zero, suc, _+_}
 use mathlib.Core.Path.{_≡_, refl, sym, ap, _∙_}
-use mathlib.Core.Bool.{Bool, true, false}
+use mathlib.Core.Bool.{Bool, true}
 use mathlib.Core.List.{List, [], _∷_, _++_}
 use native.Mathlib.Omega.{arith}
 use lib.Dec.{eqb}
@@ -18,7 +18,7 @@ use Rattle.table.proofs.Running.{run-plain}
 use Rattle.table.proofs.Walking.{walk-stop}
 use Rattle.table.specs.Run.{sizeOf, Walk, bad, rests, enter, walk, runOver}
 use Rattle.table.specs.Inner.{ended}
-use Rattle.bursts.specs.Bursts.{noteOf, carriedBy, fresh, isStopped, beforeBurst, walked, burstRule, answerOf}
+use Rattle.bursts.specs.Bursts.{noteOf, carriedBy, fresh, isStopped, beforeBurst, walked, burstRule}
 use Rattle.bursts.specs.Whole.{bursts, joined, BurstsWhole, BurstsTaken, AfterStop}
 use Rattle.bursts.specs.declared.Carried.{Carried}
 use Rattle.bursts.proofs.Bursting.{Accepted, accepted, can-carry, answerAt, burst-yes, burst-refused}
@@ -33,23 +33,24 @@ pub place-by : (q n d : ℕ) (r : Result) (stopped : Bool) → place (carriedBy 
 place-by q n d nothing stopped = refl
 place-by q n d (found j pos1 pos2) stopped = refl
 
-gives≢refused : (k : ℕ) (c : Carried) → refused k ≡ gives c → ⊥
+pub gives≢refused : (k : ℕ) (c : Carried) → refused k ≡ gives c → ⊥
 gives≢refused k c e = let z : _≡_ {A = ℕ} 0 1 = cc in omega arith
 
 rested : (d : ℕ) (w : Walk) (c : Carried) → answerAt d w ≡ gives c → w ≡ place c
 rested d bad c e = absurd (gives≢refused 10 c e)
 rested d (rests q n r) c e = let z : carriedBy q n d r (eqb q 0) ≡ c = cc in sym (place-by q n d r (eqb q 0)) ∙ ap place z
 
-record Took (c : Carried) (b ws : List ℕ) (c′ : Carried) : Type 0 where
+pub record Took (c : Carried) (b ws : List ℕ) (c′ : Carried) : Type 0 where
+  pub none : beforeBurst c b ws ≡ 0
   pub ok : Accepted c b ws
   pub ends : walked c b ws ≡ place c′
 
-took : (c : Carried) (b ws : List ℕ) (c′ : Carried) → burstRule c b ws ≡ gives c′ → Took c b ws c′
+pub took : (c : Carried) (b ws : List ℕ) (c′ : Carried) → burstRule c b ws ≡ gives c′ → Took c b ws c′
 took c b ws c′ e = go (beforeBurst c b ws) refl
   where
     go : (k : ℕ) → k ≡ beforeBurst c b ws → Took c b ws c′
     go zero p =
-        record { ok = accepted c b ws (sym p); ends = rested (c .total + length b) (walked c b ws) c′ (sym (burst-yes c b ws (sym p)) ∙ e) }
+        record { none = sym p; ok = accepted c b ws (sym p); ends = rested (c .total + length b) (walked c b ws) c′ (sym (burst-yes c b ws (sym p)) ∙ e) }
     go (suc k) p = absurd (gives≢refused (suc k) c′ (burst-refused c b ws (suc k) p (λ z. omega arith) ∙ e))
 
 -- ---- all bursts, none refused

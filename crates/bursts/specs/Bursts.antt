@@ -13,11 +13,11 @@ use Rattle.bursts.specs.declared.Carried.{Carried}
 use Rattle.bursts.specs.declared.BurstAnswer.{BurstAnswer}
 use Rattle.bursts.specs.declared.BurstAnswer.the-variants.{Given, Refused}
 
--- the note carried, if there is one: else string, pos1 and pos2 say nothing
+-- the note carried, if there is one: without one string, pos1 and pos2 say nothing
 abbrev pub noteOf : Carried → Result
 noteOf c = cond (c .noted) (found (c .string) (c .pos1) (c .pos2)) nothing
 
--- what is carried in state q with n read, d delivered and the note r: without a note string, pos1 and pos2 are 0
+-- what is carried in state q with n read, d delivered and the note r: without one string, pos1 and pos2 are 0
 abbrev pub carriedBy : ℕ → ℕ → ℕ → Result → Bool → Carried
 carriedBy q n d nothing stopped =
     record { state = q; read = n; total = d; noted = false; string = 0; pos1 = 0; pos2 = 0; stopped = stopped }
@@ -28,7 +28,7 @@ carriedBy q n d (found j pos1 pos2) stopped =
 unfoldable pub fresh : Carried
 fresh = carriedBy 1 0 0 nothing false
 
--- a note that a run could make with n characters read; having none is no fault
+-- a note that W5 does not count among those that no run could make, with n characters read; having none is no fault
 unfoldable pub isNote : ℕ → Result → Bool
 isNote n nothing = true
 isNote n (found j pos1 pos2) = (leb 1 j && leb j 32) && (leb pos2 (suc n) && (leb 1 pos1 && leb pos1 pos2))
@@ -38,7 +38,8 @@ unfoldable pub isStopped : Bool → ℕ → Bool
 isStopped true q = eqb q 0
 isStopped false q = leb 1 q
 
--- the state is one of the `size`, and stopped or not as it says; the total is at least the number read; the note is one that a run could make
+-- what is carried is no fault in a table of `size` states: the state is one of them, and 0 exactly if stopped; the total is at least the number
+-- read; the note is possible
 unfoldable pub isCarried : ℕ → Carried → Bool
 isCarried size c =
     ltb (c .state) size && (isStopped (c .stopped) (c .state) && (leb (c .read) (c .total) && isNote (c .read) (noteOf c)))
@@ -52,7 +53,7 @@ beforeChecks c burst ws =
 unfoldable pub beforeBurst : Carried → List ℕ → List ℕ → ℕ
 beforeBurst c burst ws = first (beforeChecks c burst ws)
 
--- the carried state is entered anew, and the burst is read; a run that has stopped reads nothing (`enter` and `walk` leave state 0)
+-- the carried state is entered anew, and the burst is read; a run that has stopped enters and reads nothing (`enter` and `walk` leave state 0)
 unfoldable pub walked : Carried → List ℕ → List ℕ → Walk
 walked c burst ws = walk ws (sizeOf ws) burst (enter ws (c .state) (c .read) (noteOf c))
 
@@ -63,7 +64,7 @@ burstChecks c burst ws = beforeChecks c burst ws ++ ((10, isRest (walked c burst
 unfoldable pub burstRefusal : Carried → List ℕ → List ℕ → ℕ
 burstRefusal c burst ws = first (burstChecks c burst ws)
 
--- what is carried on, with d delivered, from where the run rests (from words that are no table nothing is)
+-- what is carried on, with d delivered, from where the run rests; words that are no table are refused, and of them this says nothing
 abbrev pub carriedOn : ℕ → Walk → Carried
 carriedOn d bad = fresh
 carriedOn d (rests q n r) = carriedBy q n d r (eqb q 0)

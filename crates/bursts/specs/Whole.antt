@@ -8,10 +8,10 @@ use Rattle.strlib.specs.Pointer.{characters, textOf, storeFits, goodIn}
 use Rattle.strlib.specs.Refusal.{Outcome, refused, gives, outcome}
 use Rattle.strlib.specs.declared.StrPtr.{StrPtr}
 use Rattle.search.specs.Search.{Result, plainSearch}
-use Rattle.table.specs.Run.{runRule}
+use Rattle.table.specs.Run.{sizeOf, runRule}
 use Rattle.states.specs.Sure.{Sure}
 use Rattle.translator.specs.Translate.{Table}
-use Rattle.bursts.specs.Bursts.{noteOf, carriedBy, fresh, beforeBurst, burstRule, answerOf}
+use Rattle.bursts.specs.Bursts.{noteOf, carriedBy, fresh, isCarried, beforeBurst, burstRule, answerOf}
 use Rattle.bursts.specs.declared.Carried.{Carried}
 
 -- bursts in a row over the same words: the first refusal, or what is carried after the last
@@ -47,14 +47,18 @@ Short [] = Unit {0}
 Short (b ∷ bs) = (length b ≤ 300) × Short bs
 
 -- a host of characters, cut into bursts of at most 300: one of them is refused exactly if the whole run is, with the same number, and else the last
--- answer is the whole run's. So no run ever carries what is refused. (The bursts up to any one are bursts too: it is the one in which the whole
--- run meets the word that is none of a table)
+-- answer is the whole run's. (The bursts up to any one are bursts too: it is the one in which the whole run meets the word that is none of a table)
 abbrev pub BurstsSame : Type 0
 BurstsSame =
     (ws b : List ℕ) (bs : List (List ℕ)) (s : List ℕ) (host : StrPtr)
     → Short (b ∷ bs) → characters (joined (b ∷ bs)) ≡ true
     → storeFits s ≡ true → goodIn (length s) host ≡ true → textOf s host ≡ joined (b ∷ bs)
     → lastAnswer (bursts fresh (b ∷ bs) ws) ≡ runRule s host ws
+
+-- so what a run carries is no fault, as long as its words stay the same
+abbrev pub BurstsCarried : Type 0
+BurstsCarried =
+    (ws b : List ℕ) (bs : List (List ℕ)) (c : Carried) → bursts fresh (b ∷ bs) ws ≡ gives c → isCarried (sizeOf ws) c ≡ true
 
 -- refused bursts among them: what is carried stays as it was
 abbrev pub kept : Carried → Outcome Carried → Carried
@@ -78,7 +82,7 @@ taken c (b ∷ bs) ws = ifTaken (burstRule c b ws) b ++ taken (kept c (burstRule
 abbrev pub BurstsTaken : Type 0
 BurstsTaken = (ws : List ℕ) (bs : List (List ℕ)) (c : Carried) → bursts c (taken c bs ws) ws ≡ gives (carriedPast c bs ws)
 
--- after the stop a burst is checked like any other, and no word of a state is met: what is carried stays, but for the total
+-- after the stop a burst is checked like any other, and no word of a state is met: state, number read and note stay, and the total grows
 abbrev pub AfterStop : Type 0
 AfterStop =
     (c : Carried) (b ws : List ℕ) → c .stopped ≡ true

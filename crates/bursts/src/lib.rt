@@ -7,7 +7,7 @@ ghost use Rattle.strlib.specs.Pointer.{characters};
 ghost use Rattle.strlib.specs.Refusal.{also};
 ghost use Rattle.bursts.specs.Bursts.{fresh, beforeBurst, burstAnswered, burstRule};
 
-// What a run carries from burst to burst; where nothing is noted, string, pos1 and pos2 say nothing. It crosses the C boundary as it is.
+// What a run carries from burst to burst; unless `noted`, string, pos1 and pos2 say nothing. It crosses the C boundary as it is.
 #[repr(C)]
 pub struct Carried {
     pub state: usize,
@@ -72,7 +72,7 @@ fn before_burst(carried: Carried, burst: &[u8], table: &[u16]) -> u8
     )
 }
 
-// One burst of a host. An empty one too enters the carried state anew.
+// One burst of a host. A run that has not stopped enters its carried state anew, for an empty burst too.
 pub fn burst(carried: Carried, burst: &[u8], table: &[u16]) -> BurstAnswer
     ensures { λ r. ⌜ burstAnswered r ≡ burstRule carried (now (burst .entry)) (now (table .entry)) ⌝ }
 {

@@ -9,7 +9,7 @@ ghost use Prim.Native.Nat.{_≤_};
 ghost use lib.ListN.{length};
 ghost use Rattle.strlib.specs.Pointer.{characters};
 ghost use Rattle.strlib.specs.Refusal.{also};
-ghost use Rattle.table.specs.Run.{sizeOf, isSized, runOver, ranAnswered, runRule};
+ghost use Rattle.table.specs.Run.{isSized, runOver, ranAnswered, runRule};
 ghost use Rattle.table.specs.Inner.{walkedOf, ended, beforeRun};
 
 // Whether the first word is a number of states, with a word for each of theirs.

@@ -10,14 +10,14 @@ use lib.Seq.{getD-set-same, getD-set-other}
 use borrow.Author.Needs.{needs}
 use borrow.Author.Tests.{le-leb, lt-leb, leb-true}
 use Rattle.strlib.proofs.Pointing.{fits-is}
-use Rattle.strlib.proofs.Refusing.{inTurn, first-is, first-before, first-behind, Passed, passed, outcome-no, outcome-yes}
+use Rattle.strlib.proofs.Refusing.{first-is, first-before, first-behind, Passed, passed, outcome-no, outcome-yes}
 use Rattle.strlib.proofs.Texts.{texts-long, texts-readable}
-use Rattle.strlib.specs.Pointer.{textOf, all, characters, readable}
-use Rattle.strlib.specs.Refusal.{refused, gives, first, outcome}
+use Rattle.strlib.specs.Pointer.{storeFits, goodIn, textOf, all, characters, readable}
+use Rattle.strlib.specs.Refusal.{refused, gives, first, also, outcome}
 use Rattle.strlib.specs.declared.StrPtr.{StrPtr}
 use Rattle.search.specs.Search.{Result, plainSearch}
 use Rattle.table.proofs.Running.{is-sized, run-gave, run-plain}
-use Rattle.table.specs.Run.{sizeOf, isSized, ranOf, runRefusal, runRule}
+use Rattle.table.specs.Run.{sizeOf, isSized, ranOf, runRule}
 use Rattle.states.proofs.Levelling.{kept-none, kept-frame, kept-trans}
 use Rattle.states.proofs.Rowing.{rows-of}
 use Rattle.states.proofs.Searching.{run-ends}
@@ -30,9 +30,13 @@ use Rattle.translator.specs.Inner.{Ready, Rows, listChecks, listRefusal}
 
 -- ---- the refusals
 
-pub list-checked : (s : List ℕ) (list : List StrPtr) (count k : ℕ) → k ≡ inTurn 0 (listChecks s list count) → k ≡ listRefusal s list count
+pub list-checked : (s : List ℕ) (list : List StrPtr) (count found₁ : ℕ) → found₁ ≡ also 0 3 (storeFits s)
+    → (found₂ : ℕ) → found₂ ≡ also found₁ 3 (leb count 32) → (found₃ : ℕ) → found₃ ≡ also found₂ 1 (all (goodIn (length s)) (take count list))
+    → (found₄ : ℕ) → found₄ ≡ also found₃ 2 (all (readable s) (take count list)) → found₄ ≡ listRefusal s list count
 unfolding listRefusal
-list-checked s list count k e = first-is (listChecks s list count) refl k e
+list-checked s list count found₁ e₁ found₂ e₂ found₃ e₃ found₄ e₄ = first-is (listChecks s list count) refl found₄ (rw (e₄, e₃, e₂, e₁))
+
+pub ruleset list-laws = (needs, list-checked)
 
 module _ (s : List ℕ) (list : List StrPtr) (count words : ℕ) where
   -- the checks of the characters together, and of the words

@@ -3,7 +3,7 @@
 use std::fs;
 use std::hint::black_box;
 use std::time::{Duration, Instant};
-use strlib::{StrList, TABLE_MIN};
+use strlib::{BurstRun, StrList, BURST_MAX, TABLE_MIN};
 
 use crate::{best, full, peers, row};
 
@@ -84,6 +84,20 @@ fn one_list(list: &Lists) {
         "the library's plain search",
         ran,
         searched,
+    );
+    let in_bursts = best(|| {
+        let mut run = BurstRun::fresh();
+        for burst in black_box(&host).chunks(BURST_MAX) {
+            run.push(burst, black_box(&table)).unwrap();
+        }
+        let carried = run.carried();
+        assert!(carried.note.is_none() && carried.read == host.len());
+    });
+    row(
+        &format!("run in bursts of 300, {}", list.name),
+        "the run of the whole host",
+        in_bursts,
+        ran,
     );
     early(list, host.clone(), ran);
     with_aho(list, &host, translated, ran);

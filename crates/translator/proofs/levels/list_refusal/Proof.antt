@@ -1,4 +1,4 @@
-use Rattle.translator.proofs.Checking.{list-checked}
+use Rattle.translator.proofs.Checking.{list-laws}
 use Rattle.translator.proofs.levels.list_refusal.Statement.{statement}
 use Rattle.translator.proofs.levels.list_refusal.Tie as tie
 
@@ -10,4 +10,4 @@ list-refusal-spec =
     (λ c κs. tt)
     (λ c κs. tt)
     (λ c κs. tt)
-    (λ c. list-checked _ _ _ _ (cc)))
+    (λ c. search list-laws))

@@ -69,9 +69,9 @@ typedef struct { uint8_t refusal; bool found; size_t number; strlib_ptr front, b
  * most one. Refusal 2 is of the whole host, read or not. */
 typedef struct { uint8_t refusal; bool found; size_t string, pos1, pos2, read; } strlib_note;
 
-/* What is carried on; noted, string, pos1, pos2 and read are the answer for all that was delivered (without a note the first four are 0). On a
- * refusal it is what was given, word for word, the one field that a refusal does not leave 0: so a caller may go on from it in either case, and
- * has an answer to this burst only where the refusal is 0. */
+/* What is carried on; noted, string, pos1, pos2 and read are the answer for all bursts taken so far (without a note the first four are 0). On a
+ * refusal it is what was given, word for word, the one field that a refusal does not leave 0: a caller may go on from it, and then a refused
+ * burst counts for nothing: the answers are those of the text without it. */
 typedef struct { uint8_t refusal; strlib_carried carried; } strlib_burst_answer;
 
 /* where found: a host character's code and position (from 1) */
@@ -144,7 +144,7 @@ strlib_note strlib_run(const uint8_t *store, size_t store_length, strlib_ptr hos
  * with the last burst, which may be empty, is the whole host's, however it was cut. A run that has not stopped enters its carried state anew at
  * each burst. Refusals, of a run that has stopped too: 3 (the burst's length; the total with it), 2, 10 (the table's size), 10 (what is carried: a
  * state that the table has not, state 0 and not stopped or another and stopped, a total under the number read, or a note with string outside 1 to
- * 32, pos2 over read + 1 or pos1 outside 1 to pos2); then, as words are met, 10. Any values may be given as carried. */
+ * 32, pos2 over read + 1 or pos1 outside 1 to pos2); then, as words are met, 10. Any numbers may be given as carried. */
 strlib_carried strlib_fresh_run(void);
 strlib_burst_answer strlib_burst(strlib_carried carried, const uint8_t *burst, size_t burst_length, const uint16_t *table, size_t table_length);
 

@@ -47,8 +47,8 @@ impl BurstRun {
         self.carried
     }
 
-    /// Takes a burst of at most 300 characters, 65,536 in all, and gives the answer for all that was delivered: with the last
-    /// burst, which may be empty, the whole host's. Refusals 3, 2, 10; a refused burst leaves the run as it was.
+    /// Takes a burst of at most 300 characters, 65,536 in all, and gives the answer for all bursts taken so far: with the last,
+    /// which may be empty, the whole host's. Refusals 3, 2, 10; a refused burst leaves the run as it was, and counts for nothing.
     pub fn push(&mut self, burst: &[u8], table: &[u16]) -> Result<Run, Refusal> {
         let answer = unsafe {
             ffi::strlib_burst(

@@ -18,56 +18,56 @@ use Rattle.search.specs.Search.{Result, nothing, found}
 use Rattle.table.proofs.Resuming.{resumed-is}
 use Rattle.table.specs.Run.{sizeOf, isSized, Walk, bad, rests, isRest}
 use Rattle.table.specs.Resume.{resumed}
-use Rattle.table.specs.Inner.{noteBy, restsOf, walkedOf, noteOf as lastOf}
+use Rattle.table.specs.Inner.{noteBy, restsOf, walkedOf, noteOf}
 use Rattle.table.specs.declared.Progress.{Progress}
 use Rattle.table.specs.declared.Walked.{Walked}
 use Rattle.table.specs.declared.Walked.the-variants.{Rests, Bad}
-use Rattle.bursts.specs.Bursts.{noteOf, carriedBy, isNote, isStopped, isCarried, beforeChecks, beforeBurst, walked, burstRefusal, carriedOn, burstRule}
+use Rattle.bursts.specs.Bursts.{carriedNote, carriedBy, isNote, agrees, isCarried, beforeBurstChecks, beforeBurst, walked, burstRefusal, carriedOn, burstRule}
 use Rattle.bursts.specs.declared.Carried.{Carried}
 
 -- ---- what is carried
 
 module _ (stopped : Bool) (q : ℕ) where
-  pub stopped-is : stopped ≡ true → eqb q 0 ≡ isStopped stopped q
-  unfolding isStopped
+  pub stopped-is : stopped ≡ true → eqb q 0 ≡ agrees stopped q
+  unfolding agrees
   stopped-is e = rw e
 
-  pub going-is : stopped ≡ false → leb 1 q ≡ isStopped stopped q
-  unfolding isStopped
+  pub going-is : stopped ≡ false → leb 1 q ≡ agrees stopped q
+  unfolding agrees
   going-is e = rw e
 
 module _ (c : Carried) where
-  pub note-none : c .noted ≡ false → true ≡ isNote (c .read) (noteOf c)
+  pub note-none : c .noted ≡ false → true ≡ isNote (c .read) (carriedNote c)
   unfolding isNote
   note-none e = rw e
 
   module _ (e : c .noted ≡ true) where
-    pub note-low : c .string < 1 → false ≡ isNote (c .read) (noteOf c)
+    pub note-low : c .string < 1 → false ≡ isNote (c .read) (carriedNote c)
     unfolding isNote
     note-low h = rw (e, lt-leb 1 (c .string) h)
 
     module _ (a : 1 ≤ c .string) where
-      pub note-high : 32 < c .string → false ≡ isNote (c .read) (noteOf c)
+      pub note-high : 32 < c .string → false ≡ isNote (c .read) (carriedNote c)
       unfolding isNote
       note-high h = rw (e, le-leb 1 (c .string) a, lt-leb (c .string) 32 h)
 
       module _ (b : c .string ≤ 32) where
-        pub note-front : c .pos1 < 1 → false ≡ isNote (c .read) (noteOf c)
+        pub note-front : c .pos1 < 1 → false ≡ isNote (c .read) (carriedNote c)
         unfolding isNote
         note-front h = rw (e, le-leb 1 (c .string) a, le-leb (c .string) 32 b, lt-leb 1 (c .pos1) h, and-false)
 
         module _ (d : 1 ≤ c .pos1) where
-          pub note-order : c .pos2 < c .pos1 → false ≡ isNote (c .read) (noteOf c)
+          pub note-order : c .pos2 < c .pos1 → false ≡ isNote (c .read) (carriedNote c)
           unfolding isNote
           note-order h = rw (e, le-leb 1 (c .string) a, le-leb (c .string) 32 b, le-leb 1 (c .pos1) d, lt-leb (c .pos1) (c .pos2) h, and-false)
 
-          pub note-end : c .pos1 ≤ c .pos2 → leb (c .pos2 - 1) (c .read) ≡ isNote (c .read) (noteOf c)
+          pub note-end : c .pos1 ≤ c .pos2 → leb (c .pos2 - 1) (c .read) ≡ isNote (c .read) (carriedNote c)
           unfolding isNote
           note-end h =
               leb-same (c .pos2 - 1) (c .read) (c .pos2) (suc (c .read)) (λ x. omega arith) (λ x. omega arith)
               ∙ sym (rw (e, le-leb 1 (c .string) a, le-leb (c .string) 32 b, le-leb 1 (c .pos1) d, le-leb (c .pos1) (c .pos2) h, and-true))
 
-module _ (c : Carried) (size : ℕ) (n : Bool) (en : n ≡ isNote (c .read) (noteOf c)) (s : Bool) (es : s ≡ isStopped (c .stopped) (c .state)) where
+module _ (c : Carried) (size : ℕ) (n : Bool) (en : n ≡ isNote (c .read) (carriedNote c)) (s : Bool) (es : s ≡ agrees (c .stopped) (c .state)) where
   pub carried-is : (p : Bool) → p ≡ (leb (c .read) (c .total) && n) → (q : Bool) → q ≡ (s && p) → (r : Bool) → r ≡ (ltb (c .state) size && q)
       → r ≡ isCarried size c
   unfolding isCarried
@@ -78,12 +78,12 @@ pub ruleset carried-laws = (needs, carried-is, stopped-is, going-is, note-none, 
 -- ---- between what is carried and where a run rests
 
 module _ (c : Carried) where
-  pub rests-none : c .noted ≡ false → rests (c .state) (c .read) (noteBy 0 0 0) ≡ rests (c .state) (c .read) (noteOf c)
+  pub rests-none : c .noted ≡ false → rests (c .state) (c .read) (noteBy 0 0 0) ≡ rests (c .state) (c .read) (carriedNote c)
   unfolding noteBy
   rests-none e = rw e
 
-  pub rests-some : c .noted ≡ true → isNote (c .read) (noteOf c) ≡ true
-      → rests (c .state) (c .read) (noteBy (c .string) (c .pos1) (c .pos2)) ≡ rests (c .state) (c .read) (noteOf c)
+  pub rests-some : c .noted ≡ true → isNote (c .read) (carriedNote c) ≡ true
+      → rests (c .state) (c .read) (noteBy (c .string) (c .pos1) (c .pos2)) ≡ rests (c .state) (c .read) (carriedNote c)
   unfolding isNote noteBy
   rests-some e k =
       let a : isNote (c .read) (found (c .string) (c .pos1) (c .pos2)) ≡ true = (rw e at k) in
@@ -119,7 +119,7 @@ module _ (c : Carried) (b ws : List ℕ) (found₁ : ℕ) (e₁ : found₁ ≡ a
       → found₅ ≡ beforeBurst c b ws
   unfolding beforeBurst
   burst-checked fits e found₂ e₂ found₃ e₃ found₄ e₄ size s can d found₅ e₅ =
-      first-is (beforeChecks c b ws) refl found₅ (rw (e₅, e₄, e₃, e₂, e₁, e, d, s))
+      first-is (beforeBurstChecks c b ws) refl found₅ (rw (e₅, e₄, e₃, e₂, e₁, e, d, s))
 
 pub ruleset checked-laws = (needs, burst-checked)
 
@@ -133,20 +133,20 @@ pub record Accepted (c : Carried) (b ws : List ℕ) : Type 0 where
 pub accepted : (c : Carried) (b ws : List ℕ) → beforeBurst c b ws ≡ 0 → Accepted c b ws
 unfolding beforeBurst
 accepted c b ws z =
-    let p = passed (beforeChecks c b ws) refl z in
+    let p = passed (beforeBurstChecks c b ws) refl z in
     record { total = leb-true _ _ (p .1 .0); plain = p .1 .1 .0; sized = p .1 .1 .1 .0; carried = p .1 .1 .1 .1 .0 }
 
 pub record CanCarry (size : ℕ) (c : Carried) : Type 0 where
   pub state : c .state < size
-  pub stopped : isStopped (c .stopped) (c .state) ≡ true
+  pub stopped : agrees (c .stopped) (c .state) ≡ true
   pub reads : c .read ≤ c .total
-  pub note : isNote (c .read) (noteOf c) ≡ true
+  pub note : isNote (c .read) (carriedNote c) ≡ true
 
 pub can-carry : (size : ℕ) (c : Carried) → isCarried size c ≡ true → CanCarry size c
 unfolding isCarried
 can-carry size c e =
     let a = and-both (ltb (c .state) size) _ e in
-    let b = and-both (isStopped (c .stopped) (c .state)) _ (a .1) in
+    let b = and-both (agrees (c .stopped) (c .state)) _ (a .1) in
     let f = and-both (leb (c .read) (c .total)) _ (b .1) in
     record { state = ltb-true _ _ (a .0); stopped = b .0; reads = leb-true _ _ (f .0); note = f .1 }
 
@@ -164,7 +164,7 @@ module _ (c : Carried) (b ws : List ℕ) where
   -- nothing was refused before: the answer is the walk's
   pub burst-yes : beforeBurst c b ws ≡ 0 → burstRule c b ws ≡ answerAt (c .total + length b) (walked c b ws)
   unfolding beforeBurst burstRefusal burstRule outcome
-  burst-yes z = rw (first-behind (beforeChecks c b ws) afterwards refl z) (go (walked c b ws))
+  burst-yes z = rw (first-behind (beforeBurstChecks c b ws) afterwards refl z) (go (walked c b ws))
     where
       go : (w : Walk) → outcome (first ((10, isRest w) ∷ [])) (carriedOn (c .total + length b) w) ≡ answerAt (c .total + length b) w
       go bad = refl
@@ -174,7 +174,7 @@ module _ (c : Carried) (b ws : List ℕ) (k : ℕ) (e : k ≡ beforeBurst c b ws
   pub burst-refused : (k ≡ 0 → ⊥) → refused k ≡ burstRule c b ws
   unfolding beforeBurst burstRefusal burstRule
   burst-refused h =
-      outcome-no k (burstRefusal c b ws) (first-before (beforeChecks c b ws) (afterwards c b ws) k e h)
+      outcome-no k (burstRefusal c b ws) (first-before (beforeBurstChecks c b ws) (afterwards c b ws) k e h)
       (carriedOn (c .total + length b) (walked c b ws)) h
 
   module _ (z : k ≡ 0) where
@@ -184,14 +184,14 @@ module _ (c : Carried) (b ws : List ℕ) (k : ℕ) (e : k ≡ beforeBurst c b ws
     can : CanCarry (sizeOf ws) c
     can = can-carry (sizeOf ws) c (ok .carried)
 
-    pub burst-note : isNote (c .read) (noteOf c) ≡ true
+    pub burst-note : isNote (c .read) (carriedNote c) ≡ true
     burst-note = can .note
 
     pub burst-fits : Fits w64 (c .total + length b)
     burst-fits = record { fits = omega (arith, ok .total) }
 
-    module _ (p : Progress) (ep : restsOf p ≡ rests (c .state) (c .read) (noteOf c)) (s : Walked)
-        (d : walkedOf s ≡ resumed ws b (p .state) (p .read) (lastOf (p .last))) where
+    module _ (p : Progress) (ep : restsOf p ≡ rests (c .state) (c .read) (carriedNote c)) (s : Walked)
+        (d : walkedOf s ≡ resumed ws b (p .state) (p .read) (noteOf (p .last))) where
       resting : {q n q′ n′ : ℕ} {r r′ : Result} → rests q n r ≡ rests q′ n′ r′ → (q ≡ q′) × (n ≡ n′) × (r ≡ r′)
       resting h = (cc, cc, cc)
 
@@ -200,7 +200,7 @@ module _ (c : Carried) (b ws : List ℕ) (k : ℕ) (e : k ≡ beforeBurst c b ws
       on =
           let y = resting ep in
           d ∙ rw (y .0, y .1, y .2)
-          (resumed-is ws b (c .state) (c .read) (noteOf c)
+          (resumed-is ws b (c .state) (c .read) (carriedNote c)
           (record { sized = ok .sized; state = can .state; plain = ok .plain; near = omega (arith, can .reads, ok .total) }))
 
       rule : burstRule c b ws ≡ answerAt (c .total + length b) (walkedOf s)
@@ -210,7 +210,7 @@ module _ (c : Carried) (b ws : List ℕ) (k : ℕ) (e : k ≡ beforeBurst c b ws
       burst-bad x = sym (rule ∙ ap (λ (y : Walked). answerAt (c .total + length b) (walkedOf y)) x)
 
       pub burst-on : (at : Progress) → s ≡ Rests at → (r : Carried)
-          → r ≡ carriedBy (at .state) (at .read) (c .total + length b) (lastOf (at .last)) (eqb (at .state) 0)
+          → r ≡ carriedBy (at .state) (at .read) (c .total + length b) (noteOf (at .last)) (eqb (at .state) 0)
           → gives r ≡ burstRule c b ws
       burst-on at x r y = ap gives y ∙ sym (rule ∙ ap (λ (y : Walked). answerAt (c .total + length b) (walkedOf y)) x)
 

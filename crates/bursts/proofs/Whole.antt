@@ -18,7 +18,7 @@ use Rattle.table.proofs.Running.{run-plain}
 use Rattle.table.proofs.Walking.{walk-stop}
 use Rattle.table.specs.Run.{sizeOf, Walk, bad, rests, enter, walk, runOver}
 use Rattle.table.specs.Inner.{ended}
-use Rattle.bursts.specs.Bursts.{noteOf, carriedBy, fresh, isStopped, beforeBurst, walked, burstRule}
+use Rattle.bursts.specs.Bursts.{carriedNote, carriedBy, fresh, agrees, beforeBurst, walked, burstRule}
 use Rattle.bursts.specs.Whole.{bursts, joined, BurstsWhole, BurstsTaken, AfterStop}
 use Rattle.bursts.specs.declared.Carried.{Carried}
 use Rattle.bursts.proofs.Bursting.{Accepted, accepted, can-carry, answerAt, burst-yes, burst-refused}
@@ -27,7 +27,7 @@ use Rattle.bursts.proofs.Bursting.{Accepted, accepted, can-carry, answe
 
 -- where a run rests that carries this
 abbrev pub place : Carried → Walk
-place c = rests (c .state) (c .read) (noteOf c)
+place c = rests (c .state) (c .read) (carriedNote c)
 
 pub place-by : (q n d : ℕ) (r : Result) (stopped : Bool) → place (carriedBy q n d r stopped) ≡ rests q n r
 place-by q n d nothing stopped = refl
@@ -62,7 +62,7 @@ walked-again c b ws e = ap (walk ws (sizeOf ws) b) e
 pub again-walked : (c : Carried) (b ws : List ℕ) → again ws (walked c b ws) ≡ walked c b ws
 unfolding walked
 again-walked c b ws =
-    again-walk ws (sizeOf ws) b (enter ws (c .state) (c .read) (noteOf c)) (again-enter ws (c .state) (c .read) (noteOf c))
+    again-walk ws (sizeOf ws) b (enter ws (c .state) (c .read) (carriedNote c)) (again-enter ws (c .state) (c .read) (carriedNote c))
 
 pub outcome-case : {P : Type 0} (x : Outcome Carried) → ((k : ℕ) → x ≡ refused k → P) → ((c : Carried) → x ≡ gives c → P) → P
 outcome-case (refused k) f g = f k refl
@@ -113,16 +113,16 @@ bursts-taken ws (b ∷ bs) c =
 
 -- ---- a burst after the stop
 
-walked-stop : (c : Carried) (b ws : List ℕ) → c .state ≡ 0 → walked c b ws ≡ rests 0 (c .read) (noteOf c)
+walked-stop : (c : Carried) (b ws : List ℕ) → c .state ≡ 0 → walked c b ws ≡ rests 0 (c .read) (carriedNote c)
 unfolding walked enter
-walked-stop c b ws e = rw e (walk-stop ws (sizeOf ws) b (c .read) (noteOf c))
+walked-stop c b ws e = rw e (walk-stop ws (sizeOf ws) b (c .read) (carriedNote c))
 
 pub after-stop : AfterStop
-unfolding outcome isStopped
+unfolding outcome agrees
 after-stop c b ws e = go (beforeBurst c b ws) refl
   where
     onward : Carried
-    onward = carriedBy 0 (c .read) (c .total + length b) (noteOf c) true
+    onward = carriedBy 0 (c .read) (c .total + length b) (carriedNote c) true
 
     go : (k : ℕ) → k ≡ beforeBurst c b ws → burstRule c b ws ≡ outcome (beforeBurst c b ws) onward
     go zero p =

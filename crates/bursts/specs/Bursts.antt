@@ -8,14 +8,15 @@ use lib.ListN.{length}
 use Rattle.strlib.specs.Pointer.{characters}
 use Rattle.strlib.specs.Refusal.{Outcome, refused, gives, first, outcome}
 use Rattle.search.specs.Search.{Result, nothing, found}
-use Rattle.table.specs.Run.{sizeOf, isSized, Walk, bad, rests, isRest, enter, walk}
+use Rattle.table.specs.Run.{sizeOf, isSized, Walk, bad, rests, isRest}
+use Rattle.table.specs.Resume.{readOn}
 use Rattle.bursts.specs.declared.Carried.{Carried}
 use Rattle.bursts.specs.declared.BurstAnswer.{BurstAnswer}
-use Rattle.bursts.specs.declared.BurstAnswer.the-variants.{Given, Refused}
+use Rattle.bursts.specs.declared.BurstAnswer.the-variants.{Carries, Refused}
 
 -- the note carried, if there is one: without one string, pos1 and pos2 say nothing
-abbrev pub noteOf : Carried → Result
-noteOf c = cond (c .noted) (found (c .string) (c .pos1) (c .pos2)) nothing
+abbrev pub carriedNote : Carried → Result
+carriedNote c = cond (c .noted) (found (c .string) (c .pos1) (c .pos2)) nothing
 
 -- what is carried in state q with n read, d delivered and the note r: without one string, pos1 and pos2 are 0
 abbrev pub carriedBy : ℕ → ℕ → ℕ → Result → Bool → Carried
@@ -33,33 +34,33 @@ unfoldable pub isNote : ℕ → Result → Bool
 isNote n nothing = true
 isNote n (found j pos1 pos2) = (leb 1 j && leb j 32) && (leb pos2 (suc n) && (leb 1 pos1 && leb pos1 pos2))
 
--- state 0 exactly where the run has stopped
-unfoldable pub isStopped : Bool → ℕ → Bool
-isStopped true q = eqb q 0
-isStopped false q = leb 1 q
+-- state 0 exactly if it is said to have stopped
+unfoldable pub agrees : Bool → ℕ → Bool
+agrees true q = eqb q 0
+agrees false q = leb 1 q
 
 -- what is carried is no fault in a table of `size` states: the state is one of them, and 0 exactly if stopped; the total is at least the number
 -- read; the note is possible
 unfoldable pub isCarried : ℕ → Carried → Bool
 isCarried size c =
-    ltb (c .state) size && (isStopped (c .stopped) (c .state) && (leb (c .read) (c .total) && isNote (c .read) (noteOf c)))
+    ltb (c .state) size && (agrees (c .stopped) (c .state) && (leb (c .read) (c .total) && isNote (c .read) (carriedNote c)))
 
 -- before any of a burst is read, stopped or not: its length, and the total with it; its characters; the table's size; what is carried
-abbrev pub beforeChecks : Carried → List ℕ → List ℕ → List (ℕ × Bool)
-beforeChecks c burst ws =
+abbrev pub beforeBurstChecks : Carried → List ℕ → List ℕ → List (ℕ × Bool)
+beforeBurstChecks c burst ws =
     (3, leb (length burst) 300) ∷ (3, leb (c .total + length burst) 65536) ∷ (2, characters burst) ∷ (10, isSized ws)
     ∷ (10, isCarried (sizeOf ws) c) ∷ []
 
 unfoldable pub beforeBurst : Carried → List ℕ → List ℕ → ℕ
-beforeBurst c burst ws = first (beforeChecks c burst ws)
+beforeBurst c burst ws = first (beforeBurstChecks c burst ws)
 
 -- the carried state is entered anew, and the burst is read; a run that has stopped enters and reads nothing (`enter` and `walk` leave state 0)
 unfoldable pub walked : Carried → List ℕ → List ℕ → Walk
-walked c burst ws = walk ws (sizeOf ws) burst (enter ws (c .state) (c .read) (noteOf c))
+walked c burst ws = readOn ws burst (c .state) (c .read) (carriedNote c)
 
 -- then words as they are met
 abbrev pub burstChecks : Carried → List ℕ → List ℕ → List (ℕ × Bool)
-burstChecks c burst ws = beforeChecks c burst ws ++ ((10, isRest (walked c burst ws)) ∷ [])
+burstChecks c burst ws = beforeBurstChecks c burst ws ++ ((10, isRest (walked c burst ws)) ∷ [])
 
 unfoldable pub burstRefusal : Carried → List ℕ → List ℕ → ℕ
 burstRefusal c burst ws = first (burstChecks c burst ws)
@@ -75,9 +76,9 @@ burstRule c burst ws = outcome (burstRefusal c burst ws) (carriedOn (c .total + 
 
 -- what the run answers with this carried: the last note, and the number read
 abbrev pub answerOf : Carried → Result × ℕ
-answerOf c = (noteOf c, c .read)
+answerOf c = (carriedNote c, c .read)
 
 -- the paper's value for each case of the answer
 abbrev pub burstAnswered : BurstAnswer → Outcome Carried
-burstAnswered (Given c) = gives c
+burstAnswered (Carries c) = gives c
 burstAnswered (Refused k) = refused k

@@ -10,7 +10,7 @@ use Rattle.strlib.specs.Refusal.{refused, gives, outcome}
 use Rattle.search.specs.Search.{nothing, found}
 use Rattle.table.specs.Examples.{two}
 use Rattle.table.specs.Run.{isSized, enter, step, walk}
-use Rattle.bursts.specs.Bursts.{carriedBy, fresh, isNote, isStopped, isCarried, walked, burstRefusal, burstRule}
+use Rattle.bursts.specs.Bursts.{carriedBy, fresh, isNote, agrees, isCarried, walked, burstRefusal, burstRule}
 use Rattle.bursts.specs.Whole.{bursts}
 
 -- three states: state 0's words are 999 and never read; every character leads from state 1, which has no string, to state 2, which has f and L,
@@ -26,14 +26,14 @@ pub record Examples : Type 0 where
   pub last-entered : burstRule fresh (bytes "a") (three 1 33 0) ≡ refused 10
   pub length-first : burstRule (carriedBy 9 9 0 nothing false) (replicate 301 128) [] ≡ refused 3
   pub total-over : burstRule (carriedBy 0 1 65536 nothing true) (bytes "a") (two 1 0 0) ≡ refused 3
-  pub total-full : burstRule (carriedBy 0 1 65535 nothing true) (bytes "a") (two 1 0 0) ≡ gives (carriedBy 0 1 65536 nothing true)
+  pub wholly-checked : burstRule fresh (97 ∷ 128 ∷ []) (three 1 33 0) ≡ refused 2
   pub bad-byte-after-stop : burstRule (carriedBy 0 1 2 nothing true) (128 ∷ []) [] ≡ refused 2
   pub total-under-read : burstRule (carriedBy 1 4 3 nothing false) (bytes "ab") (two 1 0 0) ≡ refused 10
   pub string-0 : burstRule (carriedBy 1 4 4 (found 0 1 1) false) [] (two 1 0 0) ≡ refused 10
   pub pos2-last : burstRule (carriedBy 1 4 4 (found 1 1 5) false) [] (two 1 0 0) ≡ gives (carriedBy 1 4 4 (found 1 1 5) false)
 
 pub examples : Examples
-unfolding all characters outcome isSized enter step walk fresh isNote isStopped isCarried walked burstRefusal burstRule
+unfolding all characters outcome isSized enter step walk fresh isNote agrees isCarried walked burstRefusal burstRule
 examples =
     record {
       in-turn = refl;
@@ -43,7 +43,7 @@ examples =
       last-entered = refl;
       length-first = refl;
       total-over = refl;
-      total-full = refl;
+      wholly-checked = refl;
       bad-byte-after-stop = refl;
       total-under-read = refl;
       string-0 = refl;

@@ -1,7 +1,7 @@
 -- However a host is cut into bursts, the answer with the last is that of the whole: 02, W5. Assumes nothing.
-use Prim.Native.Nat.{ℕ, _+_, _≤_}
+use Prim.Native.Nat.{ℕ, _+_, _≤_, _<_}
 use mathlib.Core.Path.{_≡_}
-use mathlib.Core.Bool.{true}
+use mathlib.Core.Bool.{true, false}
 use mathlib.Core.List.{List, [], _∷_, _++_}
 use lib.ListN.{length, take}
 use Rattle.strlib.specs.Pointer.{characters, textOf, storeFits, goodIn}
@@ -11,7 +11,7 @@ use Rattle.search.specs.Search.{Result, plainSearch}
 use Rattle.table.specs.Run.{sizeOf, runRule}
 use Rattle.states.specs.Sure.{Sure}
 use Rattle.translator.specs.Translate.{Table}
-use Rattle.bursts.specs.Bursts.{noteOf, carriedBy, fresh, isCarried, beforeBurst, burstRule, answerOf}
+use Rattle.bursts.specs.Bursts.{carriedNote, carriedBy, fresh, isCarried, beforeBurst, burstRule, answerOf}
 use Rattle.bursts.specs.declared.Carried.{Carried}
 
 -- bursts in a row over the same words: the first refusal, or what is carried after the last
@@ -47,7 +47,7 @@ Short [] = Unit {0}
 Short (b ∷ bs) = (length b ≤ 300) × Short bs
 
 -- a host of characters, cut into bursts of at most 300: one of them is refused exactly if the whole run is, with the same number, and else the last
--- answer is the whole run's. (The bursts up to any one are bursts too: it is the one in which the whole run meets the word that is none of a table)
+-- answer is the whole run's. (The bursts up to any one are bursts too: so the refused burst is the first with which the whole run is refused)
 abbrev pub BurstsSame : Type 0
 BurstsSame =
     (ws b : List ℕ) (bs : List (List ℕ)) (s : List ℕ) (host : StrPtr)
@@ -55,10 +55,14 @@ BurstsSame =
     → storeFits s ≡ true → goodIn (length s) host ≡ true → textOf s host ≡ joined (b ∷ bs)
     → lastAnswer (bursts fresh (b ∷ bs) ws) ≡ runRule s host ws
 
--- so what a run carries is no fault, as long as its words stay the same
+-- so what a run carries is no fault, as long as its words stay the same; its total is the bursts', and unless it has stopped it has read them all
+pub record CarriesAll (ws : List ℕ) (bs : List (List ℕ)) (c : Carried) : Type 0 where
+  pub sound : isCarried (sizeOf ws) c ≡ true
+  pub total : c .total ≡ length (joined bs)
+  pub unstopped : c .stopped ≡ false → c .read ≡ c .total
+
 abbrev pub BurstsCarried : Type 0
-BurstsCarried =
-    (ws b : List ℕ) (bs : List (List ℕ)) (c : Carried) → bursts fresh (b ∷ bs) ws ≡ gives c → isCarried (sizeOf ws) c ≡ true
+BurstsCarried = (ws b : List ℕ) (bs : List (List ℕ)) (c : Carried) → bursts fresh (b ∷ bs) ws ≡ gives c → CarriesAll ws (b ∷ bs) c
 
 -- refused bursts among them: what is carried stays as it was
 abbrev pub kept : Carried → Outcome Carried → Carried
@@ -86,17 +90,18 @@ BurstsTaken = (ws : List ℕ) (bs : List (List ℕ)) (c : Carried) → bursts c 
 abbrev pub AfterStop : Type 0
 AfterStop =
     (c : Carried) (b ws : List ℕ) → c .stopped ≡ true
-    → burstRule c b ws ≡ outcome (beforeBurst c b ws) (carriedBy 0 (c .read) (c .total + length b) (noteOf c) true)
+    → burstRule c b ws ≡ outcome (beforeBurst c b ws) (carriedBy 0 (c .read) (c .total + length b) (carriedNote c) true)
 
--- bursts over a table of the strings ss: none is refused, the last note is the plain search's answer for them joined, and at most one character is
--- read past any place at which that answer is sure
+-- bursts over a table of the strings ss: none is refused, the last note is the plain search's answer for them joined, at most one character is
+-- read past any place at which that answer is sure, and where more was delivered the run has stopped: what is noted can be told, and stays
 pub record Searched (ss : List (List ℕ)) (words : List ℕ) (bs : List (List ℕ)) : Type 0 where
   pub last : Carried
   pub carries : bursts fresh bs words ≡ gives last
   pub found : answerOf last .0 ≡ plainSearch ss (joined bs)
   pub early : (k : ℕ) → Sure ss (take k (joined bs)) → answerOf last .1 ≤ k + 1
+  pub stops : (k : ℕ) → Sure ss (take k (joined bs)) → k + 1 < length (joined bs) → last .stopped ≡ true
 
--- over every table that the translator leaves, and within the limits
+-- over every table that the translator leaves; bursts of characters, within the limits
 abbrev pub BurstsSearch : Type 0
 BurstsSearch =
     (ss : List (List ℕ)) (old new : List ℕ) → Table ss old new

@@ -7,12 +7,12 @@ ghost use mathlib.Core.Path.{_≡_};
 ghost use mathlib.Core.Bool.{true};
 ghost use lib.Dec.{eqb};
 ghost use Rattle.table.specs.Run.{rests};
-ghost use Rattle.table.specs.Inner.{restsOf, noteOf as lastOf};
-ghost use Rattle.bursts.specs.Bursts.{noteOf, carriedBy, isNote, isStopped, isCarried};
+ghost use Rattle.table.specs.Inner.{restsOf, noteOf};
+ghost use Rattle.bursts.specs.Bursts.{carriedNote, carriedBy, isNote, agrees, isCarried};
 
 // A note that a run could make.
 fn is_note(c: Carried) -> bool
-    ensures { λ r. ⌜ r ≡ isNote (c .read) (noteOf c) ⌝ }
+    ensures { λ r. ⌜ r ≡ isNote (c .read) (carriedNote c) ⌝ }
 {
     if c.noted {
         if c.string < 1 {
@@ -32,9 +32,9 @@ fn is_note(c: Carried) -> bool
     true
 }
 
-// State 0 exactly where the run has stopped.
-fn is_stopped(stopped: bool, state: usize) -> bool
-    ensures { λ r. ⌜ r ≡ isStopped stopped state ⌝ }
+// State 0 exactly if it is said to have stopped.
+fn agrees(stopped: bool, state: usize) -> bool
+    ensures { λ r. ⌜ r ≡ agrees stopped state ⌝ }
 {
     if stopped { state == 0 } else { 1 <= state }
 }
@@ -45,14 +45,14 @@ pub(super) fn is_carried(c: Carried, size: usize) -> bool
     let possible = strlib::both(c.read <= c.total, is_note(c));
     strlib::both(
         c.state < size,
-        strlib::both(is_stopped(c.stopped, c.state), possible),
+        strlib::both(agrees(c.stopped, c.state), possible),
     )
 }
 
 // Where a run rests that carries this: string 0 for no note.
 pub(super) fn progress_of(c: Carried) -> Progress
-    requires { ⌜ isNote (c .read) (noteOf c) ≡ true ⌝ }
-    ensures { λ r. ⌜ restsOf r ≡ rests (c .state) (c .read) (noteOf c) ⌝ }
+    requires { ⌜ isNote (c .read) (carriedNote c) ≡ true ⌝ }
+    ensures { λ r. ⌜ restsOf r ≡ rests (c .state) (c .read) (carriedNote c) ⌝ }
 {
     let state = c.state;
     let read = c.read;
@@ -79,7 +79,7 @@ pub(super) fn progress_of(c: Carried) -> Progress
 
 // What is carried on from there.
 pub(super) fn carried_of(at: Progress, total: usize) -> Carried
-    ensures { λ r. ⌜ r ≡ carriedBy (at .state) (at .read) total (lastOf (at .last)) (eqb (at .state) 0) ⌝ }
+    ensures { λ r. ⌜ r ≡ carriedBy (at .state) (at .read) total (noteOf (at .last)) (eqb (at .state) 0) ⌝ }
 {
     let last = at.last;
     let state = at.state;

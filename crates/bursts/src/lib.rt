@@ -20,9 +20,9 @@ pub struct Carried {
     pub stopped: bool,
 }
 
-// What is carried on, which has the answer for all that was delivered.
+// What is carried on, which has the answer for all bursts that were taken.
 pub enum BurstAnswer {
-    Given(Carried),
+    Carries(Carried),
     Refused(u8),
 }
 
@@ -30,7 +30,7 @@ impl Carried {
     // Characters of a burst.
     pub const BURST_MAX: usize = 300;
 
-    // A run to which nothing was delivered.
+    // A run to which no burst was given.
     pub fn fresh() -> Self
         ensures { λ r. ⌜ r ≡ fresh ⌝ }
     {
@@ -85,5 +85,5 @@ pub fn burst(carried: Carried, burst: &[u8], table: &[u16]) -> BurstAnswer
         return BurstAnswer::Refused(10);
     };
     let total = carried.total + burst.len();
-    BurstAnswer::Given(carrying::carried_of(at, total))
+    BurstAnswer::Carries(carrying::carried_of(at, total))
 }

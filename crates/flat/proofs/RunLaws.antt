@@ -5,17 +5,17 @@ use borrow.Author.Needs.{needs}
 use Rattle.bursts.specs.Bursts.{burstAnswered}
 use Rattle.bursts.specs.declared.Carried.{Carried}
 use Rattle.bursts.specs.declared.BurstAnswer.{BurstAnswer}
-use Rattle.bursts.specs.declared.BurstAnswer.the-variants.{Given, Refused}
+use Rattle.bursts.specs.declared.BurstAnswer.the-variants.{Carries, Refused}
 use Rattle.flat.specs.Runs.{flatBurst}
 use Rattle.flat.specs.declared.runs.FlatBurst.{FlatBurst}
 
 module _ (given : Carried) (a : BurstAnswer) where
-  pub burst-given : (c : Carried) → a ≡ Given c → _≡_ {A = FlatBurst} (record { refusal = 0; carried = c }) (flatBurst given (burstAnswered a))
+  pub burst-carries : (c : Carried) → a ≡ Carries c → _≡_ {A = FlatBurst} (record { refusal = 0; carried = c }) (flatBurst given (burstAnswered a))
   unfolding flatBurst
-  burst-given c e = rw e
+  burst-carries c e = rw e
 
   pub burst-refused : (n : ℕ) → a ≡ Refused n → _≡_ {A = FlatBurst} (record { refusal = n; carried = given }) (flatBurst given (burstAnswered a))
   unfolding flatBurst
   burst-refused n e = rw e
 
-pub ruleset run-laws = (needs, burst-given, burst-refused)
+pub ruleset run-laws = (needs, burst-carries, burst-refused)

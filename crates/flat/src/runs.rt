@@ -16,7 +16,7 @@ pub fn burst(given: Carried, a: BurstAnswer) -> FlatBurst
     ensures { λ r. ⌜ r ≡ flatBurst given (burstAnswered a) ⌝ }
 {
     match a {
-        BurstAnswer::Given(carried) => FlatBurst {
+        BurstAnswer::Carries(carried) => FlatBurst {
             refusal: 0,
             carried,
         },

@@ -1,5 +1,5 @@
 -- Laws of a run in pieces: a text in two parts is walked part by part, a state that was entered may be entered anew, and what a run hands on is
--- one of its states with a note that it can make. Assumes nothing.
+-- one of its states with a note that it can make, having read all unless it stopped. Assumes nothing.
 use Prim.Native.Nat.{ℕ, zero, suc, _+_, _-_, _≤_}
 use mathlib.Core.Path.{_≡_, refl}
 use mathlib.Core.Bool.{Bool, true, false, _&&_}
@@ -61,6 +61,40 @@ in-walk ws size m [] w k = let e : m + 0 ≡ m = omega arith in rw e k
 in-walk ws size m (c ∷ h) w k =
     let e : m + suc (length h) ≡ suc m + length h = omega arith in
     rw e (in-walk ws size (suc m) h (step ws size w c) (in-step ws size m w c k))
+
+-- ---- having read all, unless it stopped
+
+abbrev pub ReadsAll : ℕ → Walk → Type 0
+ReadsAll m bad = Unit {0}
+ReadsAll m (rests q n r) = (q ≡ 0 → ⊥) → n ≡ m
+
+all-only : (m : ℕ) (b : Bool) (w : Walk) → ReadsAll m w → ReadsAll m (onlyIf b w)
+all-only m true w k = k
+all-only m false w k = tt
+
+all-noted : (q f l n m : ℕ) (r : Result) → ((q ≡ 0 → ⊥) → n ≡ m) → ReadsAll m (noted q f l n r)
+all-noted q zero l n m r k = k
+all-noted q (suc f) l n m r k = all-only m (leb (suc f) 32 && leb l n) _ k
+
+pub all-enter : (ws : List ℕ) (q n m : ℕ) (r : Result) → ((q ≡ 0 → ⊥) → n ≡ m) → ReadsAll m (enter ws q n r)
+unfolding enter
+all-enter ws zero n m r k = k
+all-enter ws (suc q) n m r k = all-noted (suc q) (wordOf ws (suc q) 128) (wordOf ws (suc q) 129) n m r k
+
+all-step : (ws : List ℕ) (size m : ℕ) (w : Walk) (c : ℕ) → ReadsAll m w → ReadsAll (suc m) (step ws size w c)
+unfolding step
+all-step ws size m bad c k = tt
+all-step ws size m (rests zero n r) c k = λ h. absurd (h refl)
+all-step ws size m (rests (suc q) n r) c k =
+    all-only (suc m) (ltb (wordOf ws (suc q) c) size) _
+    (all-enter ws (wordOf ws (suc q) c) (suc n) (suc m) r (λ h. let e : n ≡ m = k (λ z. omega arith) in omega arith))
+
+pub all-walk : (ws : List ℕ) (size m : ℕ) (h : List ℕ) (w : Walk) → ReadsAll m w → ReadsAll (m + length h) (walk ws size h w)
+unfolding walk
+all-walk ws size m [] w k = let e : m + 0 ≡ m = omega arith in rw e k
+all-walk ws size m (c ∷ h) w k =
+    let e : m + suc (length h) ≡ suc m + length h = omega arith in
+    rw e (all-walk ws size (suc m) h (step ws size w c) (all-step ws size m w c k))
 
 -- ---- with a note that it can make
 

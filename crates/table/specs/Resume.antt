@@ -13,6 +13,9 @@ use Rattle.table.specs.Run.{sizeOf, isSized, Walk, onlyIf, enter, walk}
 unfoldable pub canResume : List ℕ → List ℕ → ℕ → ℕ → Bool
 canResume ws h q n = isSized ws && (ltb q (sizeOf ws) && (characters h && leb (n + length h) 65536))
 
--- the state is entered anew, and the text is read
+-- the state is entered, and the text is read
+abbrev pub readOn : List ℕ → List ℕ → ℕ → ℕ → Result → Walk
+readOn ws h q n r = walk ws (sizeOf ws) h (enter ws q n r)
+
 unfoldable pub resumed : List ℕ → List ℕ → ℕ → ℕ → Result → Walk
-resumed ws h q n r = onlyIf (canResume ws h q n) (walk ws (sizeOf ws) h (enter ws q n r))
+resumed ws h q n r = onlyIf (canResume ws h q n) (readOn ws h q n r)

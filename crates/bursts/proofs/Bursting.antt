@@ -1,6 +1,6 @@
 -- Laws of a burst's code: each return is a clause of the rule, and what was checked is what a run that goes on asks. Assumes nothing.
 use mathlib.Core.Path.{_≡_, refl, sym, ap, _∙_}
-use mathlib.Core.Bool.{Bool, true, false, _&&_, and-true, and-false}
+use mathlib.Core.Bool.{Bool, true, false, _&&_, cond, and-true, and-false}
 use mathlib.Core.List.{List, [], _∷_}
 use Prim.Native.Nat.{ℕ, zero, suc, _+_, _-_, _≤_, _<_}
 use native.Mathlib.Omega.{arith}
@@ -9,20 +9,21 @@ use mir.Val.{Fits}
 use lib.Dec.{leb, ltb, eqb}
 use lib.ListN.{length}
 use borrow.Author.Needs.{needs}
-use borrow.Author.Tests.{leb-true, ltb-true, le-leb, lt-leb}
+use borrow.Author.Tests.{leb-true, le-leb, lt-leb}
 use Rattle.strlib.proofs.Pointing.{leb-same}
-use Rattle.strlib.proofs.Refusing.{and-both, first-is, passed, first-before, first-behind, outcome-no}
+use Rattle.strlib.proofs.Refusing.{and-both, first-is, Passed, passed, first-before, first-behind, outcome-no}
 use Rattle.strlib.specs.Pointer.{characters}
 use Rattle.strlib.specs.Refusal.{Outcome, refused, gives, first, also, outcome}
 use Rattle.search.specs.Search.{Result, nothing, found}
 use Rattle.table.proofs.Resuming.{resumed-is}
-use Rattle.table.specs.Run.{sizeOf, isSized, Walk, bad, rests, isRest}
-use Rattle.table.specs.Resume.{resumed}
+use Rattle.table.specs.Run.{sizeOf, isSized, Walk, bad, rests, onlyIf, isRest}
+use Rattle.table.specs.Resume.{readOn, resumed}
 use Rattle.table.specs.Inner.{noteBy, restsOf, walkedOf, noteOf}
 use Rattle.table.specs.declared.Progress.{Progress}
 use Rattle.table.specs.declared.Walked.{Walked}
 use Rattle.table.specs.declared.Walked.the-variants.{Rests, Bad}
-use Rattle.bursts.specs.Bursts.{carriedNote, carriedBy, isNote, agrees, isCarried, beforeBurstChecks, beforeBurst, walked, burstRefusal, carriedOn, burstRule}
+use Rattle.bursts.specs.Bursts.{carriedNote, carriedBy, isNote, agrees, isSound, isCarried, beforeBurstChecks, beforeBurst, walked, burstRefusal, carriedOn, burstRule}
+use Rattle.bursts.specs.Inner.{ownChecks, ownRefusal}
 use Rattle.bursts.specs.declared.Carried.{Carried}
 
 -- ---- what is carried
@@ -67,13 +68,12 @@ module _ (c : Carried) where
               leb-same (c .pos2 - 1) (c .read) (c .pos2) (suc (c .read)) (λ x. omega arith) (λ x. omega arith)
               ∙ sym (rw (e, le-leb 1 (c .string) a, le-leb (c .string) 32 b, le-leb 1 (c .pos1) d, le-leb (c .pos1) (c .pos2) h, and-true))
 
-module _ (c : Carried) (size : ℕ) (n : Bool) (en : n ≡ isNote (c .read) (carriedNote c)) (s : Bool) (es : s ≡ agrees (c .stopped) (c .state)) where
-  pub carried-is : (p : Bool) → p ≡ (leb (c .read) (c .total) && n) → (q : Bool) → q ≡ (s && p) → (r : Bool) → r ≡ (ltb (c .state) size && q)
-      → r ≡ isCarried size c
-  unfolding isCarried
-  carried-is p ep q eq r er = er ∙ rw (eq, ep, en, es)
+module _ (c : Carried) (n : Bool) (en : n ≡ isNote (c .read) (carriedNote c)) (s : Bool) (es : s ≡ agrees (c .stopped) (c .state)) where
+  pub sound-is : (p : Bool) → p ≡ (leb (c .read) (c .total) && n) → (r : Bool) → r ≡ (s && p) → r ≡ isSound c
+  unfolding isSound
+  sound-is p ep r er = er ∙ rw (ep, en, es)
 
-pub ruleset carried-laws = (needs, carried-is, stopped-is, going-is, note-none, note-low, note-high, note-front, note-order, note-end)
+pub ruleset carried-laws = (needs, sound-is, stopped-is, going-is, note-none, note-low, note-high, note-front, note-order, note-end)
 
 -- ---- between what is carried and where a run rests
 
@@ -109,46 +109,86 @@ module _ (q n d j pos1 pos2 : ℕ) (stopped : Bool) where
 
 pub ruleset place-laws = (needs, rests-none, rests-some, carried-none, carried-some)
 
--- ---- the refusal
+-- ---- the refusals
 
--- the checks as they are made, one behind the other
-module _ (c : Carried) (b ws : List ℕ) (found₁ : ℕ) (e₁ : found₁ ≡ also 0 3 (leb (length b) 300)) where
+-- the checks that need no table, as they are made, one behind the other
+module _ (c : Carried) (b : List ℕ) (found₁ : ℕ) (e₁ : found₁ ≡ also 0 3 (leb (length b) 300)) where
   pub burst-checked : (fits : Bool) → fits ≡ leb (c .total + length b) 65536 → (found₂ : ℕ) → found₂ ≡ also found₁ 3 fits
-      → (found₃ : ℕ) → found₃ ≡ also found₂ 2 (characters b) → (found₄ : ℕ) → found₄ ≡ also found₃ 10 (isSized ws)
-      → (size : ℕ) → size ≡ sizeOf ws → (can : Bool) → can ≡ isCarried size c → (found₅ : ℕ) → found₅ ≡ also found₄ 10 can
-      → found₅ ≡ beforeBurst c b ws
-  unfolding beforeBurst
-  burst-checked fits e found₂ e₂ found₃ e₃ found₄ e₄ size s can d found₅ e₅ =
-      first-is (beforeBurstChecks c b ws) refl found₅ (rw (e₅, e₄, e₃, e₂, e₁, e, d, s))
+      → (found₃ : ℕ) → found₃ ≡ also found₂ 2 (characters b) → (sound : Bool) → sound ≡ isSound c → (found₄ : ℕ) → found₄ ≡ also found₃ 10 sound
+      → found₄ ≡ ownRefusal c b
+  unfolding ownRefusal
+  burst-checked fits e found₂ e₂ found₃ e₃ sound d found₄ e₄ = first-is (ownChecks c b) refl found₄ (rw (e₄, e₃, e₂, e₁, e, d))
 
 pub ruleset checked-laws = (needs, burst-checked)
 
--- what was checked where nothing is refused
-pub record Accepted (c : Carried) (b ws : List ℕ) : Type 0 where
-  pub total : c .total + length b ≤ 65536
-  pub plain : characters b ≡ true
-  pub sized : isSized ws ≡ true
-  pub carried : isCarried (sizeOf ws) c ≡ true
-
-pub accepted : (c : Carried) (b ws : List ℕ) → beforeBurst c b ws ≡ 0 → Accepted c b ws
-unfolding beforeBurst
-accepted c b ws z =
-    let p = passed (beforeBurstChecks c b ws) refl z in
-    record { total = leb-true _ _ (p .1 .0); plain = p .1 .1 .0; sized = p .1 .1 .1 .0; carried = p .1 .1 .1 .1 .0 }
-
-pub record CanCarry (size : ℕ) (c : Carried) : Type 0 where
-  pub state : c .state < size
+pub record Sound (c : Carried) : Type 0 where
   pub stopped : agrees (c .stopped) (c .state) ≡ true
   pub reads : c .read ≤ c .total
   pub note : isNote (c .read) (carriedNote c) ≡ true
 
-pub can-carry : (size : ℕ) (c : Carried) → isCarried size c ≡ true → CanCarry size c
-unfolding isCarried
-can-carry size c e =
-    let a = and-both (ltb (c .state) size) _ e in
-    let b = and-both (agrees (c .stopped) (c .state)) _ (a .1) in
-    let f = and-both (leb (c .read) (c .total)) _ (b .1) in
-    record { state = ltb-true _ _ (a .0); stopped = b .0; reads = leb-true _ _ (f .0); note = f .1 }
+pub sound-has : (c : Carried) → isSound c ≡ true → Sound c
+unfolding isSound
+sound-has c e =
+    let a = and-both (agrees (c .stopped) (c .state)) _ e in
+    let b = and-both (leb (c .read) (c .total)) _ (a .1) in
+    record { stopped = a .0; reads = leb-true _ _ (b .0); note = b .1 }
+
+-- what was checked where nothing is refused before the burst is read
+pub record Accepted (c : Carried) (b ws : List ℕ) : Type 0 where
+  pub plain : characters b ≡ true
+  pub sized : isSized ws ≡ true
+  pub sound : isSound c ≡ true
+
+pub accepted : (c : Carried) (b ws : List ℕ) → beforeBurst c b ws ≡ 0 → Accepted c b ws
+unfolding beforeBurst isCarried
+accepted c b ws z =
+    let p = passed (beforeBurstChecks c b ws) refl z in
+    record { plain = p .1 .1 .0; sized = p .1 .1 .1 .0; sound = and-both (ltb (c .state) (sizeOf ws)) (isSound c) (p .1 .1 .1 .1 .0) .1 }
+
+-- what needs no table is refused in its place, with its number
+own-first : (a₁ a₂ a₃ sound sized state : Bool) (k : ℕ) → k ≡ first ((3, a₁) ∷ (3, a₂) ∷ (2, a₃) ∷ (10, sound) ∷ []) → (k ≡ 0 → ⊥)
+    → k ≡ first ((3, a₁) ∷ (3, a₂) ∷ (2, a₃) ∷ (10, sized) ∷ (10, state && sound) ∷ [])
+own-first false a₂ a₃ sound sized state k e h = e
+own-first true false a₃ sound sized state k e h = e
+own-first true true false sound sized state k e h = e
+own-first true true true true sized state k e h = absurd (h e)
+own-first true true true false false state k e h = e
+own-first true true true false true true k e h = e
+own-first true true true false true false k e h = e
+
+own-before : (c : Carried) (b ws : List ℕ) (k : ℕ) → k ≡ ownRefusal c b → (k ≡ 0 → ⊥) → k ≡ beforeBurst c b ws
+unfolding ownRefusal beforeBurst isCarried
+own-before c b ws k e h =
+    own-first (leb (length b) 300) (leb (c .total + length b) 65536) (characters b) (isSound c) (isSized ws) (ltb (c .state) (sizeOf ws)) k e h
+
+-- where that is passed, the words and the state decide
+module _ (c : Carried) (b ws : List ℕ) (z : ownRefusal c b ≡ 0) where
+  own-passed : Passed (ownChecks c b)
+  unfolding ownRefusal
+  own-passed = passed (ownChecks c b) refl z
+
+  own-sound : Sound c
+  own-sound = sound-has c (own-passed .1 .1 .1 .0)
+
+  own-total : c .total + length b ≤ 65536
+  own-total = leb-true _ _ (own-passed .1 .0)
+
+  own-near : c .read + length b ≤ 65536
+  own-near = omega (arith, own-sound .reads, own-total)
+
+  own-plain : characters b ≡ true
+  own-plain = own-passed .1 .1 .0
+
+  own-decides : (on : Bool) → (isSized ws && ltb (c .state) (sizeOf ws)) ≡ on → beforeBurst c b ws ≡ cond on 0 10
+  unfolding beforeBurst isCarried
+  own-decides on e =
+      let p = own-passed in
+      rw (p .0, p .1 .0, p .1 .1 .0, p .1 .1 .1 .0) (go (isSized ws) (ltb (c .state) (sizeOf ws)) on e)
+    where
+      go : (sized state on : Bool) → (sized && state) ≡ on → first ((10, sized) ∷ (10, state && true) ∷ []) ≡ cond on 0 10
+      go false state on e = rw (← e)
+      go true false on e = rw (← e)
+      go true true on e = rw (← e)
 
 -- ---- the call
 
@@ -170,41 +210,48 @@ module _ (c : Carried) (b ws : List ℕ) where
       go bad = refl
       go (rests q n r) = refl
 
-module _ (c : Carried) (b ws : List ℕ) (k : ℕ) (e : k ≡ beforeBurst c b ws) where
-  pub burst-refused : (k ≡ 0 → ⊥) → refused k ≡ burstRule c b ws
+  pub burst-no : (k : ℕ) → k ≡ beforeBurst c b ws → (k ≡ 0 → ⊥) → refused k ≡ burstRule c b ws
   unfolding beforeBurst burstRefusal burstRule
-  burst-refused h =
-      outcome-no k (burstRefusal c b ws) (first-before (beforeBurstChecks c b ws) (afterwards c b ws) k e h)
+  burst-no k e h =
+      outcome-no k (burstRefusal c b ws) (first-before (beforeBurstChecks c b ws) afterwards k e h)
       (carriedOn (c .total + length b) (walked c b ws)) h
 
-  module _ (z : k ≡ 0) where
-    ok : Accepted c b ws
-    ok = accepted c b ws (sym e ∙ z)
+module _ (c : Carried) (b ws : List ℕ) (k : ℕ) (e : k ≡ ownRefusal c b) where
+  pub burst-refused : (k ≡ 0 → ⊥) → refused k ≡ burstRule c b ws
+  burst-refused h = burst-no c b ws k (own-before c b ws k e h) h
 
-    can : CanCarry (sizeOf ws) c
-    can = can-carry (sizeOf ws) c (ok .carried)
+  module _ (z : k ≡ 0) where
+    own : ownRefusal c b ≡ 0
+    own = sym e ∙ z
 
     pub burst-note : isNote (c .read) (carriedNote c) ≡ true
-    burst-note = can .note
+    burst-note = own-sound c b ws own .note
 
     pub burst-fits : Fits w64 (c .total + length b)
-    burst-fits = record { fits = omega (arith, ok .total) }
+    burst-fits = record { fits = omega (arith, own-total c b ws own) }
+
+    decided : (on : Bool) → (isSized ws && ltb (c .state) (sizeOf ws)) ≡ on
+        → burstRule c b ws ≡ answerAt (c .total + length b) (onlyIf on (readOn ws b (c .state) (c .read) (carriedNote c)))
+    unfolding walked
+    decided true y = burst-yes c b ws (own-decides c b ws own true y)
+    decided false y = sym (burst-no c b ws 10 (sym (own-decides c b ws own false y)) (λ x. omega arith))
+
+    -- from where the table's run rests
+    goes-on : burstRule c b ws ≡ answerAt (c .total + length b) (resumed ws b (c .state) (c .read) (carriedNote c))
+    goes-on =
+        decided (isSized ws && ltb (c .state) (sizeOf ws)) refl
+        ∙ ap (answerAt (c .total + length b)) (sym (resumed-is ws b (c .state) (c .read) (carriedNote c) (own-plain c b ws own) (own-near c b ws own)))
 
     module _ (p : Progress) (ep : restsOf p ≡ rests (c .state) (c .read) (carriedNote c)) (s : Walked)
         (d : walkedOf s ≡ resumed ws b (p .state) (p .read) (noteOf (p .last))) where
       resting : {q n q′ n′ : ℕ} {r r′ : Result} → rests q n r ≡ rests q′ n′ r′ → (q ≡ q′) × (n ≡ n′) × (r ≡ r′)
       resting h = (cc, cc, cc)
 
-      on : walkedOf s ≡ walked c b ws
-      unfolding walked
-      on =
-          let y = resting ep in
-          d ∙ rw (y .0, y .1, y .2)
-          (resumed-is ws b (c .state) (c .read) (carriedNote c)
-          (record { sized = ok .sized; state = can .state; plain = ok .plain; near = omega (arith, can .reads, ok .total) }))
+      same : walkedOf s ≡ resumed ws b (c .state) (c .read) (carriedNote c)
+      same = let y = resting ep in d ∙ rw (y .0, y .1, y .2)
 
       rule : burstRule c b ws ≡ answerAt (c .total + length b) (walkedOf s)
-      rule = burst-yes c b ws (sym e ∙ z) ∙ ap (answerAt (c .total + length b)) (sym on)
+      rule = goes-on ∙ ap (answerAt (c .total + length b)) (sym same)
 
       pub burst-bad : s ≡ Bad → refused 10 ≡ burstRule c b ws
       burst-bad x = sym (rule ∙ ap (λ (y : Walked). answerAt (c .total + length b) (walkedOf y)) x)

@@ -24,10 +24,10 @@ use Rattle.table.specs.Inner.{ended}
 use Rattle.states.specs.Sure.{Sure}
 use Rattle.translator.proofs.Demand3.{noted}
 use Rattle.translator.specs.Translate.{Host, Table}
-use Rattle.bursts.specs.Bursts.{carriedNote, carriedBy, fresh, isNote, agrees, isCarried, beforeBurst, walked, burstRule, answerOf}
+use Rattle.bursts.specs.Bursts.{carriedNote, carriedBy, fresh, isNote, agrees, isSound, isCarried, beforeBurst, walked, burstRule, answerOf}
 use Rattle.bursts.specs.Whole.{andThen, bursts, lastAnswer, joined, Short, BurstsSame, CarriesAll, BurstsCarried, Searched, BurstsSearch}
 use Rattle.bursts.specs.declared.Carried.{Carried}
-use Rattle.bursts.proofs.Bursting.{answerAt, burst-yes, burst-refused}
+use Rattle.bursts.proofs.Bursting.{answerAt, burst-yes, burst-no}
 use Rattle.bursts.proofs.Whole.{place, place-by, gives≢refused, took, again-walked, outcome-case}
 
 -- ---- what a run carries
@@ -56,7 +56,7 @@ runs-by ws q n d nothing x y z u = record { state = x; stopped = refl; total = r
 runs-by ws q n d (found j pos1 pos2) x y z u = record { state = x; stopped = refl; total = refl; reads = y; note = z; unstopped = u }
 
 carry-good : (ws : List ℕ) (d : ℕ) (c : Carried) → Runs ws d c → isCarried (sizeOf ws) c ≡ true
-unfolding isCarried
+unfolding isCarried isSound
 carry-good ws d c k =
     rw (
       lt-ltb (c .state) (sizeOf ws) (k .state),
@@ -161,7 +161,7 @@ bursts-carried ws b bs c e =
     (λ n p. absurd (gives≢refused n c (rw p at e)))
     (λ c₁ p. let k = rest-carries ws (b ∷ bs) 0 fresh c (fresh-runs ws (took fresh b ws c₁ p .ok .sized)) e in
     record {
-      sound = carry-good ws (0 + length (b ++ joined bs)) c k;
+      carried = carry-good ws (0 + length (b ++ joined bs)) c k;
       total = omega (arith, k .total);
       unstopped = λ h. k .unstopped (λ z. eqb-false (c .state) 0 (sym (k .stopped) ∙ h) z) ∙ sym (k .total);
     })
@@ -186,7 +186,7 @@ fresh-unsized ws b z short total plain =
 burst-unsized : (ws b : List ℕ) (bs : List (List ℕ)) → isSized ws ≡ false → length b ≤ 300 → length b ≤ 65536 → characters b ≡ true
     → lastAnswer (bursts fresh (b ∷ bs) ws) ≡ refused 10
 burst-unsized ws b bs z short total plain =
-    rw (← burst-refused fresh b ws 10 (sym (fresh-unsized ws b z short total plain)) (λ e. omega arith))
+    rw (← burst-no fresh b ws 10 (sym (fresh-unsized ws b z short total plain)) (λ e. omega arith))
 
 host-short : (s : List ℕ) (host : StrPtr) (h : List ℕ) → storeFits s ≡ true → goodIn (length s) host ≡ true → textOf s host ≡ h → length h ≤ 65536
 host-short s host h fits good is = omega (arith, ap length is, text-length s host good, good-is (length s) host good, fits-is s fits)

@@ -21,7 +21,7 @@ use Rattle.table.specs.Inner.{ended}
 use Rattle.bursts.specs.Bursts.{carriedNote, carriedBy, fresh, agrees, beforeBurst, walked, burstRule}
 use Rattle.bursts.specs.Whole.{bursts, joined, BurstsWhole, BurstsTaken, AfterStop}
 use Rattle.bursts.specs.declared.Carried.{Carried}
-use Rattle.bursts.proofs.Bursting.{Accepted, accepted, can-carry, answerAt, burst-yes, burst-refused}
+use Rattle.bursts.proofs.Bursting.{Accepted, accepted, sound-has, answerAt, burst-yes, burst-no}
 
 -- ---- one burst that was not refused
 
@@ -51,7 +51,7 @@ took c b ws c′ e = go (beforeBurst c b ws) refl
     go : (k : ℕ) → k ≡ beforeBurst c b ws → Took c b ws c′
     go zero p =
         record { none = sym p; ok = accepted c b ws (sym p); ends = rested (c .total + length b) (walked c b ws) c′ (sym (burst-yes c b ws (sym p)) ∙ e) }
-    go (suc k) p = absurd (gives≢refused (suc k) c′ (burst-refused c b ws (suc k) p (λ z. omega arith) ∙ e))
+    go (suc k) p = absurd (gives≢refused (suc k) c′ (burst-no c b ws (suc k) p (λ z. omega arith) ∙ e))
 
 -- ---- all bursts, none refused
 
@@ -126,8 +126,8 @@ after-stop c b ws e = go (beforeBurst c b ws) refl
 
     go : (k : ℕ) → k ≡ beforeBurst c b ws → burstRule c b ws ≡ outcome (beforeBurst c b ws) onward
     go zero p =
-        let k = can-carry (sizeOf ws) c (accepted c b ws (sym p) .carried) in
+        let k = sound-has c (accepted c b ws (sym p) .sound) in
         let q : c .state ≡ 0 = eqb-true (c .state) 0 (rw e at (k .stopped)) in
         rw (← p) (burst-yes c b ws (sym p) ∙ ap (answerAt (c .total + length b)) (walked-stop c b ws q))
     go (suc k) p =
-        sym (burst-refused c b ws (suc k) p (λ z. omega arith)) ∙ outcome-no (suc k) (beforeBurst c b ws) p onward (λ z. omega arith)
+        sym (burst-no c b ws (suc k) p (λ z. omega arith)) ∙ outcome-no (suc k) (beforeBurst c b ws) p onward (λ z. omega arith)

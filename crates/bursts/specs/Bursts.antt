@@ -39,11 +39,13 @@ unfoldable pub agrees : Bool → ℕ → Bool
 agrees true q = eqb q 0
 agrees false q = leb 1 q
 
--- what is carried is no fault in a table of `size` states: the state is one of them, and 0 exactly if stopped; the total is at least the number
--- read; the note is possible
+-- no fault that shows without a table: the total is at least the number read, and the note is possible
+unfoldable pub isSound : Carried → Bool
+isSound c = agrees (c .stopped) (c .state) && (leb (c .read) (c .total) && isNote (c .read) (carriedNote c))
+
+-- and none in a table of `size` states: the state is one of them
 unfoldable pub isCarried : ℕ → Carried → Bool
-isCarried size c =
-    ltb (c .state) size && (agrees (c .stopped) (c .state) && (leb (c .read) (c .total) && isNote (c .read) (carriedNote c)))
+isCarried size c = ltb (c .state) size && isSound c
 
 -- before any of a burst is read, stopped or not: its length, and the total with it; its characters; the table's size; what is carried
 abbrev pub beforeBurstChecks : Carried → List ℕ → List ℕ → List (ℕ × Bool)

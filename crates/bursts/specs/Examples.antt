@@ -10,7 +10,7 @@ use Rattle.strlib.specs.Refusal.{refused, gives, outcome}
 use Rattle.search.specs.Search.{nothing, found}
 use Rattle.table.specs.Examples.{two}
 use Rattle.table.specs.Run.{isSized, enter, step, walk}
-use Rattle.bursts.specs.Bursts.{carriedBy, fresh, isNote, agrees, isCarried, walked, burstRefusal, burstRule}
+use Rattle.bursts.specs.Bursts.{carriedBy, fresh, isNote, agrees, isSound, isCarried, walked, burstRefusal, burstRule}
 use Rattle.bursts.specs.Whole.{bursts}
 
 -- three states: state 0's words are 999 and never read; every character leads from state 1, which has no string, to state 2, which has f and L,
@@ -33,7 +33,7 @@ pub record Examples : Type 0 where
   pub pos2-last : burstRule (carriedBy 1 4 4 (found 1 1 5) false) [] (two 1 0 0) ≡ gives (carriedBy 1 4 4 (found 1 1 5) false)
 
 pub examples : Examples
-unfolding all characters outcome isSized enter step walk fresh isNote agrees isCarried walked burstRefusal burstRule
+unfolding all characters outcome isSized enter step walk fresh isNote agrees isSound isCarried walked burstRefusal burstRule
 examples =
     record {
       in-turn = refl;

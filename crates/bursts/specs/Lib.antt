@@ -1,3 +1,4 @@
 pub mod Bursts
+pub mod Inner
 pub mod Whole
 pub mod Examples

@@ -57,7 +57,7 @@ BurstsSame =
 
 -- so what a run carries is no fault, as long as its words stay the same; its total is the bursts', and unless it has stopped it has read them all
 pub record CarriesAll (ws : List ℕ) (bs : List (List ℕ)) (c : Carried) : Type 0 where
-  pub sound : isCarried (sizeOf ws) c ≡ true
+  pub carried : isCarried (sizeOf ws) c ≡ true
   pub total : c .total ≡ length (joined bs)
   pub unstopped : c .stopped ≡ false → c .read ≡ c .total
 

@@ -8,7 +8,7 @@ ghost use mathlib.Core.Bool.{true};
 ghost use lib.Dec.{eqb};
 ghost use Rattle.table.specs.Run.{rests};
 ghost use Rattle.table.specs.Inner.{restsOf, noteOf};
-ghost use Rattle.bursts.specs.Bursts.{carriedNote, carriedBy, isNote, agrees, isCarried};
+ghost use Rattle.bursts.specs.Bursts.{carriedNote, carriedBy, isNote, agrees, isSound};
 
 // A note that a run could make.
 fn is_note(c: Carried) -> bool
@@ -39,14 +39,11 @@ fn agrees(stopped: bool, state: usize) -> bool
     if stopped { state == 0 } else { 1 <= state }
 }
 
-pub(super) fn is_carried(c: Carried, size: usize) -> bool
-    ensures { λ r. ⌜ r ≡ isCarried size c ⌝ }
+pub(super) fn is_sound(c: Carried) -> bool
+    ensures { λ r. ⌜ r ≡ isSound c ⌝ }
 {
     let possible = strlib::both(c.read <= c.total, is_note(c));
-    strlib::both(
-        c.state < size,
-        strlib::both(agrees(c.stopped, c.state), possible),
-    )
+    strlib::both(agrees(c.stopped, c.state), possible)
 }
 
 // Where a run rests that carries this: string 0 for no note.

@@ -5,7 +5,8 @@ use table::Walked;
 ghost use mathlib.Core.Path.{_≡_};
 ghost use Rattle.strlib.specs.Pointer.{characters};
 ghost use Rattle.strlib.specs.Refusal.{also};
-ghost use Rattle.bursts.specs.Bursts.{fresh, beforeBurst, burstAnswered, burstRule};
+ghost use Rattle.bursts.specs.Bursts.{fresh, burstAnswered, burstRule};
+ghost use Rattle.bursts.specs.Inner.{ownRefusal};
 
 // What a run carries from burst to burst; unless `noted`, string, pos1 and pos2 say nothing. It crosses the C boundary as it is.
 #[repr(C)]
@@ -56,27 +57,23 @@ fn check_characters(found: u8, burst: &[u8]) -> u8
     strlib::check(found, 2, strlib::are_characters(burst))
 }
 
-// What is refused before the carried state is entered.
-fn before_burst(carried: Carried, burst: &[u8], table: &[u16]) -> u8
-    ensures { λ r. ⌜ r ≡ beforeBurst carried (now (burst .entry)) (now (table .entry)) ⌝ }
+// What is refused without a look at the table.
+fn own_refusal(carried: Carried, burst: &[u8]) -> u8
+    ensures { λ r. ⌜ r ≡ ownRefusal carried (now (burst .entry)) ⌝ }
 {
     let n = burst.len();
     let found = strlib::check(0, 3, n <= Carried::BURST_MAX);
     let found = strlib::check(found, 3, table::fit_together(carried.total, n));
     let found = check_characters(found, burst);
-    let found = table::check_sized(found, table);
-    strlib::check(
-        found,
-        10,
-        carrying::is_carried(carried, table::size_of(table)),
-    )
+    strlib::check(found, 10, carrying::is_sound(carried))
 }
 
-// One burst of a host. A run that has not stopped enters its carried state anew, for an empty burst too.
+// One burst of a host. A run that has not stopped enters its carried state anew, for an empty burst too. Whether the words have a table's size and
+// the carried state is tested by `resume`, before it reads anything: 10 in either case.
 pub fn burst(carried: Carried, burst: &[u8], table: &[u16]) -> BurstAnswer
     ensures { λ r. ⌜ burstAnswered r ≡ burstRule carried (now (burst .entry)) (now (table .entry)) ⌝ }
 {
-    let refusal = before_burst(carried, burst, table);
+    let refusal = own_refusal(carried, burst);
     if refusal != 0 {
         return BurstAnswer::Refused(refusal);
     }

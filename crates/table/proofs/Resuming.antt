@@ -1,19 +1,19 @@
 -- Laws of a run that goes on: where it may, the code enters and walks as the rule does; else it reads nothing. Assumes nothing.
 use mathlib.Core.Path.{_≡_, refl, sym, _∙_}
-use mathlib.Core.Bool.{Bool, true, false, _&&_}
+use mathlib.Core.Bool.{Bool, true, false, _&&_, and-true}
 use mathlib.Core.List.{List, [], _∷_}
 use Prim.Native.Nat.{ℕ, _+_, _-_, _≤_, _<_}
 use native.Mathlib.Omega.{arith}
 use lib.Dec.{leb, ltb}
 use lib.ListN.{length}
 use borrow.Author.Needs.{needs}
-use borrow.Author.Tests.{leb-true, ltb-true, le-leb, lt-leb, lt-ltb}
+use borrow.Author.Tests.{leb-true, ltb-true, le-leb, lt-leb}
 use Rattle.strlib.proofs.Pointing.{leb-same}
 use Rattle.strlib.proofs.Refusing.{and-both}
 use Rattle.strlib.specs.Pointer.{characters}
 use Rattle.search.specs.Search.{Result}
-use Rattle.table.specs.Run.{sizeOf, isSized, Walk, bad, enter, walk}
-use Rattle.table.specs.Resume.{canResume, resumed}
+use Rattle.table.specs.Run.{sizeOf, isSized, Walk, bad, onlyIf, enter, walk}
+use Rattle.table.specs.Resume.{canResume, readOn, resumed}
 use Rattle.table.specs.Inner.{Entered}
 use Rattle.table.proofs.Running.{sized-is}
 
@@ -35,13 +35,13 @@ pub ruleset together-laws = (needs, size-none, together-over, together-fit)
 
 -- ---- where a run may go on
 
-pub record CanResume (ws h : List ℕ) (q n : ℕ) : Type 0 where
+record CanResume (ws h : List ℕ) (q n : ℕ) : Type 0 where
   pub sized : isSized ws ≡ true
   pub state : q < sizeOf ws
   pub plain : characters h ≡ true
   pub near : n + length h ≤ 65536
 
-pub can-resume : (ws h : List ℕ) (q n : ℕ) → canResume ws h q n ≡ true → CanResume ws h q n
+can-resume : (ws h : List ℕ) (q n : ℕ) → canResume ws h q n ≡ true → CanResume ws h q n
 unfolding canResume
 can-resume ws h q n e =
     let a = and-both (isSized ws) _ e in
@@ -55,9 +55,11 @@ pub resume-can : (ws h : List ℕ) (q n : ℕ) (plain : Bool) → plain ≡ char
 unfolding canResume
 resume-can ws h q n plain e near f readable g sized a size b on d r x = x ∙ rw (d, g, e, f, a, b)
 
-pub resumed-is : (ws h : List ℕ) (q n : ℕ) (r : Result) → CanResume ws h q n → resumed ws h q n r ≡ walk ws (sizeOf ws) h (enter ws q n r)
+-- over characters, no more than a store has, the words and the state decide
+pub resumed-is : (ws h : List ℕ) (q n : ℕ) (r : Result) → characters h ≡ true → n + length h ≤ 65536
+    → resumed ws h q n r ≡ onlyIf (isSized ws && ltb q (sizeOf ws)) (readOn ws h q n r)
 unfolding resumed canResume
-resumed-is ws h q n r k = rw (k .sized, lt-ltb q (sizeOf ws) (k .state), k .plain, le-leb (n + length h) 65536 (k .near))
+resumed-is ws h q n r plain near = rw (plain, le-leb (n + length h) 65536 near, and-true)
 
 module _ (ws h : List ℕ) (q n : ℕ) (b : Bool) (e : b ≡ canResume ws h q n) where
   pub resume-not : b ≡ false → (r : Result) → bad ≡ resumed ws h q n r

@@ -11,8 +11,6 @@ ghost use Rattle.table.specs.Run.{enter, step, walk};
 ghost use Rattle.table.specs.Inner.{noteOf, restsOf, walkedOf, Entered};
 pub use onward::fit_together;
 pub use onward::resume;
-pub use onward::size_of;
-pub use runs::check_sized;
 pub use runs::run;
 
 pub struct Note {

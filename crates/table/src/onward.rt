@@ -10,7 +10,7 @@ ghost use Rattle.table.specs.Resume.{canResume, resumed};
 ghost use Rattle.table.specs.Inner.{noteOf, walkedOf};
 
 // Word 0, the number of states; 0 where there is none.
-pub fn size_of(table: &[u16]) -> usize
+fn size_of(table: &[u16]) -> usize
     ensures { λ r. ⌜ r ≡ sizeOf (now (table .entry)) ⌝ }
 {
     if table.len() == 0 {

@@ -29,7 +29,7 @@ pub(super) fn is_sized(table: &[u16]) -> bool
     1 + super::STATE_WORDS * size <= table.len()
 }
 
-pub fn check_sized(found: u8, table: &[u16]) -> u8
+fn check_sized(found: u8, table: &[u16]) -> u8
     ensures { λ r. ⌜ r ≡ also found 10 (isSized (now (table .entry))) ⌝ }
 {
     if found != 0 {

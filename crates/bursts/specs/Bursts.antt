@@ -34,12 +34,12 @@ unfoldable pub isNote : ℕ → Result → Bool
 isNote n nothing = true
 isNote n (found j pos1 pos2) = (leb 1 j && leb j 32) && (leb pos2 (suc n) && (leb 1 pos1 && leb pos1 pos2))
 
--- state 0 exactly if it is said to have stopped
+-- state 0 exactly if stopped
 unfoldable pub agrees : Bool → ℕ → Bool
 agrees true q = eqb q 0
 agrees false q = leb 1 q
 
--- no fault that shows without a table: the total is at least the number read, and the note is possible
+-- no fault that shows without a table: state 0 exactly if stopped; the total at least the number read; a possible note
 unfoldable pub isSound : Carried → Bool
 isSound c = agrees (c .stopped) (c .state) && (leb (c .read) (c .total) && isNote (c .read) (carriedNote c))
 

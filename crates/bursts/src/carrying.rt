@@ -32,7 +32,7 @@ fn is_note(c: Carried) -> bool
     true
 }
 
-// State 0 exactly if it is said to have stopped.
+// State 0 exactly if stopped.
 fn agrees(stopped: bool, state: usize) -> bool
     ensures { λ r. ⌜ r ≡ agrees stopped state ⌝ }
 {

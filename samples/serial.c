@@ -1,6 +1,7 @@
-/* Which name does each remark on the serial line give first? Remarks, a line each, are read from standard input in bursts as they arrive; a name
- * is told as soon as it is sure, which may be before the remark has ended. Usage: serial BURST NAME.., BURST being the most that is read at a
- * time, 1 to 300. */
+/* Which name does each remark on the serial line give first? Remarks, a line each, are read from standard input in bursts as they arrive. A name is
+ * told when the run has stopped, at most one character past the place at which it is sure, or at the remark's end; however a remark was cut, it is
+ * the same. Where a burst is refused before that, as one with a byte over 127 is, that is told instead. Usage: serial BURST [NAME..], BURST being
+ * the most that is read at a time, 1 to 300. */
 #include <errno.h>
 #include <stdio.h>
 #include <stdlib.h>
@@ -15,9 +16,10 @@ static size_t remark = 1;
 static strlib_carried run;
 static bool told; /* nothing more is to be told of this remark */
 
-/* What is told is told at once, or the program ends. */
+/* Of this remark nothing more is told; what was told is written at once, or the program ends. */
 static void sent(void) {
-    if (fflush(stdout) != 0) {
+    told = true;
+    if (fflush(stdout) != 0 || ferror(stdout)) {
         perror("serial: writing");
         exit(1);
     }
@@ -29,19 +31,19 @@ static void tell(void) {
     } else {
         printf("%zu: no name, after %zu\n", remark, run.read);
     }
-    told = true;
     sent();
 }
 
-/* A refused burst counts for nothing: of its remark no name is told any more. */
 static void deliver(const uint8_t *burst, size_t length) {
     strlib_burst_answer answer = strlib_burst(run, burst, length, table, STRLIB_TABLE_MIN);
     run = answer.carried;
+    if (told) {
+        return;
+    }
     if (answer.refusal != 0) {
         printf("%zu: a burst is refused, %d\n", remark, answer.refusal);
-        told = true;
         sent();
-    } else if (run.stopped && !told) {
+    } else if (run.stopped) {
         tell();
     }
 }
@@ -59,7 +61,7 @@ int main(int argc, char **argv) {
     char *rest = "";
     unsigned long most = argc > 1 ? strtoul(argv[1], &rest, 10) : 0;
     if (most < 1 || most > STRLIB_BURST_MAX || *rest != 0 || argc > 2 + STRLIB_LIST_MAX) {
-        fputs("usage: serial BURST NAME.., BURST 1 to 300, at most 32 names\n", stderr);
+        fputs("usage: serial BURST [NAME..], BURST 1 to 300, at most 32 names\n", stderr);
         return 2;
     }
     names = argv + 2;

@@ -27,7 +27,7 @@ pub struct Carried {
 /// let answer = run.push(b"LA", &table).unwrap();
 /// assert_eq!(answer.note, Some(Note { string: 1, pos1: 11, pos2: 16 }));
 /// ```
-#[derive(Clone, Copy, Debug, PartialEq, Eq)]
+#[derive(Clone, Debug, PartialEq, Eq)]
 pub struct BurstRun {
     carried: Carried,
 }

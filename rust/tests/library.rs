@@ -1,4 +1,4 @@
-//! The library compared with document 01: every call, its whole answer and all lent memory, on random, damaged and small
+//! The library compared with documents 01 and 02: every call, its whole answer and all lent memory, on random, damaged and small
 //! inputs (`families`), against an independent implementation of the document (`oracle`).
 //!
 //! STRLIB_SEED sets the seed; STRLIB_ROUNDS sets the number of rounds of each family, 200,000 else, other tests in proportion.

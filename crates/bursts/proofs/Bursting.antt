@@ -162,7 +162,7 @@ own-before c b ws k e h =
     own-first (leb (length b) 300) (leb (c .total + length b) 65536) (characters b) (isSound c) (isSized ws) (ltb (c .state) (sizeOf ws)) k e h
 
 -- where that is passed, the words and the state decide
-module _ (c : Carried) (b ws : List ℕ) (z : ownRefusal c b ≡ 0) where
+module _ (c : Carried) (b : List ℕ) (z : ownRefusal c b ≡ 0) where
   own-passed : Passed (ownChecks c b)
   unfolding ownRefusal
   own-passed = passed (ownChecks c b) refl z
@@ -179,9 +179,9 @@ module _ (c : Carried) (b ws : List ℕ) (z : ownRefusal c b ≡ 0) where
   own-plain : characters b ≡ true
   own-plain = own-passed .1 .1 .0
 
-  own-decides : (on : Bool) → (isSized ws && ltb (c .state) (sizeOf ws)) ≡ on → beforeBurst c b ws ≡ cond on 0 10
+  own-decides : (ws : List ℕ) (on : Bool) → (isSized ws && ltb (c .state) (sizeOf ws)) ≡ on → beforeBurst c b ws ≡ cond on 0 10
   unfolding beforeBurst isCarried
-  own-decides on e =
+  own-decides ws on e =
       let p = own-passed in
       rw (p .0, p .1 .0, p .1 .1 .0, p .1 .1 .1 .0) (go (isSized ws) (ltb (c .state) (sizeOf ws)) on e)
     where
@@ -225,22 +225,22 @@ module _ (c : Carried) (b ws : List ℕ) (k : ℕ) (e : k ≡ ownRefusal c b) wh
     own = sym e ∙ z
 
     pub burst-note : isNote (c .read) (carriedNote c) ≡ true
-    burst-note = own-sound c b ws own .note
+    burst-note = own-sound c b own .note
 
     pub burst-fits : Fits w64 (c .total + length b)
-    burst-fits = record { fits = omega (arith, own-total c b ws own) }
+    burst-fits = record { fits = omega (arith, own-total c b own) }
 
     decided : (on : Bool) → (isSized ws && ltb (c .state) (sizeOf ws)) ≡ on
         → burstRule c b ws ≡ answerAt (c .total + length b) (onlyIf on (readOn ws b (c .state) (c .read) (carriedNote c)))
     unfolding walked
-    decided true y = burst-yes c b ws (own-decides c b ws own true y)
-    decided false y = sym (burst-no c b ws 10 (sym (own-decides c b ws own false y)) (λ x. omega arith))
+    decided true y = burst-yes c b ws (own-decides c b own ws true y)
+    decided false y = sym (burst-no c b ws 10 (sym (own-decides c b own ws false y)) (λ x. omega arith))
 
     -- from where the table's run rests
     goes-on : burstRule c b ws ≡ answerAt (c .total + length b) (resumed ws b (c .state) (c .read) (carriedNote c))
     goes-on =
         decided (isSized ws && ltb (c .state) (sizeOf ws)) refl
-        ∙ ap (answerAt (c .total + length b)) (sym (resumed-is ws b (c .state) (c .read) (carriedNote c) (own-plain c b ws own) (own-near c b ws own)))
+        ∙ ap (answerAt (c .total + length b)) (sym (resumed-is ws b (c .state) (c .read) (carriedNote c) (own-plain c b own) (own-near c b own)))
 
     module _ (p : Progress) (ep : restsOf p ≡ rests (c .state) (c .read) (carriedNote c)) (s : Walked)
         (d : walkedOf s ≡ resumed ws b (p .state) (p .read) (noteOf (p .last))) where

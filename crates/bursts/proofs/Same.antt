@@ -129,7 +129,7 @@ module _ (ws : List ℕ) (sized : isSized ws ≡ true) where
 -- ---- what a run carries is no fault
 
 carries-on : (ws : List ℕ) (d : ℕ) (w : Walk) (c : Carried) → answerAt d w ≡ gives c → RestsIn (sizeOf ws) d w → WellNoted w → ReadsAll d w → Runs ws d c
-carries-on ws d bad c e i v u = let z : _≡_ {A = ℕ} 0 1 = cc in absurd (omega arith)
+carries-on ws d bad c e i v u = absurd (gives≢refused 10 c e)
 carries-on ws d (rests q n r) c e i v u = let z : carriedBy q n d r (eqb q 0) ≡ c = cc in rw z at (runs-by ws q n d r (i .0) (i .1) v u)
 
 module _ (ws : List ℕ) where
@@ -177,16 +177,16 @@ from-fresh ws b bs z short total plain =
     (rest-same ws z bs (0 + length b) (short .1) (omega arith) (p .1))
 
 -- words that are no table are refused with the first burst
-fresh-unsized : (ws b : List ℕ) → isSized ws ≡ false → length b ≤ 300 → length b ≤ 65536 → characters b ≡ true → beforeBurst fresh b ws ≡ 10
+fresh-unsized : (ws b : List ℕ) → isSized ws ≡ false → length b ≤ 300 → characters b ≡ true → beforeBurst fresh b ws ≡ 10
 unfolding beforeBurst fresh
-fresh-unsized ws b z short total plain =
+fresh-unsized ws b z short plain =
     let t : 0 + length b ≤ 65536 = omega arith in
     rw (le-leb (length b) 300 short, le-leb (0 + length b) 65536 t, plain, z)
 
-burst-unsized : (ws b : List ℕ) (bs : List (List ℕ)) → isSized ws ≡ false → length b ≤ 300 → length b ≤ 65536 → characters b ≡ true
+burst-unsized : (ws b : List ℕ) (bs : List (List ℕ)) → isSized ws ≡ false → length b ≤ 300 → characters b ≡ true
     → lastAnswer (bursts fresh (b ∷ bs) ws) ≡ refused 10
-burst-unsized ws b bs z short total plain =
-    rw (← burst-no fresh b ws 10 (sym (fresh-unsized ws b z short total plain)) (λ e. omega arith))
+burst-unsized ws b bs z short plain =
+    rw (← burst-no fresh b ws 10 (sym (fresh-unsized ws b z short plain)) (λ e. omega arith))
 
 host-short : (s : List ℕ) (host : StrPtr) (h : List ℕ) → storeFits s ≡ true → goodIn (length s) host ≡ true → textOf s host ≡ h → length h ≤ 65536
 host-short s host h fits good is = omega (arith, ap length is, text-length s host good, good-is (length s) host good, fits-is s fits)
@@ -200,7 +200,7 @@ bursts-same ws b bs s host short plain fits good is =
     let read : characters (textOf s host) ≡ true = ap characters is ∙ plain in
     bool-case (isSized ws)
     (λ z. from-fresh ws b bs z short n plain ∙ sym (run-plain s host ws fits good read z ∙ ap (λ (h : List ℕ). ended (runOver ws h)) is))
-    (λ z. burst-unsized ws b bs z (short .0) (omega arith) (p .0) ∙ sym (run-unsized s host ws fits good read z))
+    (λ z. burst-unsized ws b bs z (short .0) (p .0) ∙ sym (run-unsized s host ws fits good read z))
 
 -- ---- over a table that the translator left
 

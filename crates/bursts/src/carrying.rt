@@ -1,4 +1,4 @@
-// What is carried: whether a run could carry it, and where it rests.
+// What is carried: whether it is at fault, and where a run rests that carries it.
 use super::Carried;
 use strlib::StrPtr;
 use table::Note;
@@ -10,7 +10,7 @@ ghost use Rattle.table.specs.Run.{rests};
 ghost use Rattle.table.specs.Inner.{restsOf, noteOf};
 ghost use Rattle.bursts.specs.Bursts.{carriedNote, carriedBy, isNote, agrees, isSound};
 
-// A note that a run could make.
+// Not a note that W5 counts among those that no run could make.
 fn is_note(c: Carried) -> bool
     ensures { λ r. ⌜ r ≡ isNote (c .read) (carriedNote c) ⌝ }
 {

@@ -1,7 +1,7 @@
 -- Laws of a run that goes on: where it may, the code enters and walks as the rule does; else it reads nothing. Assumes nothing.
-use mathlib.Core.Path.{_≡_, refl, sym, _∙_}
+use mathlib.Core.Path.{_≡_, sym, _∙_}
 use mathlib.Core.Bool.{Bool, true, false, _&&_, and-true}
-use mathlib.Core.List.{List, [], _∷_}
+use mathlib.Core.List.{List}
 use Prim.Native.Nat.{ℕ, _+_, _-_, _≤_, _<_}
 use native.Mathlib.Omega.{arith}
 use lib.Dec.{leb, ltb}
@@ -17,12 +17,6 @@ use Rattle.table.specs.Resume.{canResume, readOn, resumed}
 use Rattle.table.specs.Inner.{Entered}
 use Rattle.table.proofs.Running.{sized-is}
 
--- ---- the first word
-
-pub size-none : (ws : List ℕ) → length ws ≡ 0 → 0 ≡ sizeOf ws
-size-none [] e = refl
-size-none (w ∷ ws) e = absurd (omega arith)
-
 -- ---- a sum that is not made where it could be too great
 
 pub together-over : (n m : ℕ) → 65536 < m → false ≡ leb (n + m) 65536
@@ -31,7 +25,7 @@ together-over n m h = let k : 65536 < n + m = omega arith in sym (lt-leb (n + m)
 pub together-fit : (n m : ℕ) → m ≤ 65536 → leb n (65536 - m) ≡ leb (n + m) 65536
 together-fit n m h = leb-same n (65536 - m) (n + m) 65536 (λ x. omega arith) (λ x. omega arith)
 
-pub ruleset together-laws = (needs, size-none, together-over, together-fit)
+pub ruleset together-laws = (needs, together-over, together-fit)
 
 -- ---- where a run may go on
 

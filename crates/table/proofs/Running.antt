@@ -1,6 +1,6 @@
 -- Laws of the run's code: each return is a clause of the rule. Assumes nothing.
 use mathlib.Core.Path.{_≡_, refl, sym, ap, _∙_}
-use mathlib.Core.Bool.{Bool, true, false, _&&_, and-false}
+use mathlib.Core.Bool.{Bool, true, false, and-false}
 use mathlib.Core.List.{List, [], _∷_}
 use Prim.Native.Nat.{ℕ, zero, suc, _+_, _-_, _*_, _≤_, _<_}
 use native.Mathlib.Numerals.{add-one}
@@ -18,7 +18,6 @@ use Rattle.strlib.specs.declared.StrPtr.{StrPtr}
 use Rattle.search.specs.Search.{Result, nothing, found}
 use Rattle.table.specs.Run.{sizeOf, wordOf, isSized, Walk, bad, rests, onlyIf, noted, enter, step, walk, runOver, isRest, ranOf, runChecks, runRefusal, runRule}
 use Rattle.table.specs.Inner.{noteBy, noteOf, restsOf, walkedOf, Entered, beforeChecks, beforeRun, ended}
-use Rattle.table.specs.declared.Note.{Note}
 use Rattle.table.specs.declared.Progress.{Progress}
 use Rattle.table.specs.declared.Walked.{Walked}
 use Rattle.table.specs.declared.Walked.the-variants.{Rests, Bad}
@@ -140,29 +139,26 @@ pub ruleset walk-laws = (needs, walk-stopped, walk-over, walk-refused, walk-on, 
 
 -- ---- the first word and the number of words
 
-module _ (ws : List ℕ) where
-  pub sized-none : length ws ≡ 0 → false ≡ isSized ws
+pub size-none : (ws : List ℕ) → length ws ≡ 0 → 0 ≡ sizeOf ws
+size-none [] e = refl
+size-none (w ∷ ws) e = absurd (omega arith)
+
+pub ruleset size-laws = (needs, size-none)
+
+module _ (ws : List ℕ) (k : ℕ) (e : k ≡ sizeOf ws) where
+  pub sized-low : k < 2 → false ≡ isSized ws
   unfolding isSized
-  sized-none e = go ws e
-    where
-      go : (ws : List ℕ) → length ws ≡ 0 → false ≡ (leb 2 (sizeOf ws) && (leb (sizeOf ws) 242 && leb (1 + 130 * sizeOf ws) (length ws)))
-      go [] e = refl
-      go (w ∷ ws) e = absurd (omega arith)
+  sized-low l = rw (← e, lt-leb 2 k l)
 
-  module _ (k : ℕ) (e : k ≡ sizeOf ws) where
-    pub sized-low : k < 2 → false ≡ isSized ws
-    unfolding isSized
-    sized-low l = rw (← e, lt-leb 2 k l)
+  pub sized-high : 242 < k → false ≡ isSized ws
+  unfolding isSized
+  sized-high l = rw (← e, lt-leb k 242 l, and-false (leb 2 k))
 
-    pub sized-high : 242 < k → false ≡ isSized ws
-    unfolding isSized
-    sized-high l = rw (← e, lt-leb k 242 l, and-false (leb 2 k))
+  pub sized-long : 2 ≤ k → k ≤ 242 → leb (1 + 130 * k) (length ws) ≡ isSized ws
+  unfolding isSized
+  sized-long a b = rw (← e, le-leb 2 k a, le-leb k 242 b)
 
-    pub sized-long : 2 ≤ k → k ≤ 242 → leb (1 + 130 * k) (length ws) ≡ isSized ws
-    unfolding isSized
-    sized-long a b = rw (← e, le-leb 2 k a, le-leb k 242 b)
-
-pub ruleset sized-laws = (needs, sized-none, sized-low, sized-high, sized-long)
+pub ruleset sized-laws = (needs, sized-low, sized-high, sized-long)
 
 pub record Sized (ws : List ℕ) : Type 0 where
   pub low : 2 ≤ sizeOf ws
@@ -210,10 +206,7 @@ module _ (ws h : List ℕ) (size : ℕ) (e : size ≡ sizeOf ws) where
   unfolding runOver
   start-over w x = x ∙ rw (e, note-none 0 0 0 refl)
 
-pub start-first : (ws : List ℕ) → isSized ws ≡ true → 0 < length ws
-start-first ws y = omega (arith, sized-is ws y .long)
-
-pub ruleset start-laws = (needs, start-first, start-entered, start-over)
+pub ruleset start-laws = (needs, start-entered, start-over)
 
 -- ---- what a run answers
 

@@ -7,7 +7,7 @@ ghost use mathlib.Core.Bool.{true};
 ghost use Prim.Native.Nat.{_+_, _≤_};
 ghost use lib.ListN.{length};
 ghost use Rattle.strlib.specs.Pointer.{characters};
-ghost use Rattle.table.specs.Run.{enter, step, walk};
+ghost use Rattle.table.specs.Run.{sizeOf, enter, step, walk};
 ghost use Rattle.table.specs.Inner.{noteOf, restsOf, walkedOf, Entered};
 pub use onward::fit_together;
 pub use onward::resume;
@@ -56,6 +56,16 @@ fn wide(x: u16) -> usize
     ensures { λ r. ⌜ r ≡ x ⌝ }
 {
     x as usize
+}
+
+// Word 0, the number of states; 0 where there is none.
+fn size_of(table: &[u16]) -> usize
+    ensures { λ r. ⌜ r ≡ sizeOf (now (table .entry)) ⌝ }
+{
+    if table.len() == 0 {
+        return 0;
+    }
+    wide(table[0])
 }
 
 // The state is entered: its string, if it has one, is noted.

@@ -5,19 +5,8 @@ use strlib::StrPtr;
 ghost use mathlib.Core.Path.{_≡_};
 ghost use Prim.Native.Nat.{_+_};
 ghost use lib.Dec.{leb};
-ghost use Rattle.table.specs.Run.{sizeOf};
 ghost use Rattle.table.specs.Resume.{canResume, resumed};
 ghost use Rattle.table.specs.Inner.{noteOf, walkedOf};
-
-// Word 0, the number of states; 0 where there is none.
-fn size_of(table: &[u16]) -> usize
-    ensures { λ r. ⌜ r ≡ sizeOf (now (table .entry)) ⌝ }
-{
-    if table.len() == 0 {
-        return 0;
-    }
-    super::wide(table[0])
-}
 
 // Whether n characters and m more are at most a store's.
 pub fn fit_together(n: usize, m: usize) -> bool
@@ -35,7 +24,7 @@ fn can_resume(text: &[u8], table: &[u16], state: usize, read: usize) -> bool
     let readable = strlib::both(strlib::are_characters(text), fit_together(read, text.len()));
     strlib::both(
         super::runs::is_sized(table),
-        strlib::both(state < size_of(table), readable),
+        strlib::both(state < super::size_of(table), readable),
     )
 }
 
@@ -44,7 +33,7 @@ pub fn resume(text: &[u8], table: &[u16], from: Progress) -> Walked
     ensures { λ r. ⌜ walkedOf r ≡ resumed (now (table .entry)) (now (text .entry)) (from .state) (from .read) (noteOf (from .last)) ⌝ }
 {
     if can_resume(text, table, from.state, from.read) {
-        return super::read_on(text, table, size_of(table), from);
+        return super::read_on(text, table, super::size_of(table), from);
     }
     Walked::Bad
 }

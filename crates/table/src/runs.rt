@@ -16,10 +16,7 @@ ghost use Rattle.table.specs.Inner.{walkedOf, ended, beforeRun};
 pub(super) fn is_sized(table: &[u16]) -> bool
     ensures { λ r. ⌜ r ≡ isSized (now (table .entry)) ⌝ }
 {
-    if table.len() == 0 {
-        return false;
-    }
-    let size = super::wide(table[0]);
+    let size = super::size_of(table);
     if size < super::STATES_MIN {
         return false;
     }
@@ -56,7 +53,7 @@ fn run_over(text: &[u8], table: &[u16]) -> Walked
     super::read_on(
         text,
         table,
-        super::wide(table[0]),
+        super::size_of(table),
         Progress {
             state: 1,
             read: 0,

@@ -102,8 +102,8 @@ fn whole(host: &[u8], words: &[u16]) -> Result<Run, Refusal> {
     answer
 }
 
-/// From a fresh run: none refused, the last answer is the whole host's; else the host up to the refused burst and with it is refused
-/// with the same number, and without it isn't.
+/// From a fresh run: after every burst that is taken the answer is that of a whole run over what was delivered, and a burst is refused
+/// exactly if that run is, with its number.
 fn in_bursts(round: &mut Round, name: &'static str, host: &[u8], words: &[u16]) {
     let mut carried = bursts::fresh();
     let mut delivered = Vec::new();
@@ -209,7 +209,7 @@ fn made_up_words_in_bursts() {
     tally.expect("burst", &[10], &["refused behind others"]);
 }
 
-/// Something that a run could carry over a table of so many states.
+/// Something that is carried without a fault over a table of so many states.
 fn carried(rng: &mut Rng, states: usize) -> Carried {
     let read = rng.pick(&[0, 1, 2, 9, 300, 65_000, 65_535, 65_536]);
     let total = match rng.below(3) {
@@ -247,7 +247,7 @@ const SPOILED: [&str; 10] = [
     "total over 65,536",
 ];
 
-/// Makes it something that no run could carry; gives what is wrong and the refusal.
+/// Puts one fault in; gives what it is and the refusal.
 fn spoiled(rng: &mut Rng, states: usize, carried: &mut Carried) -> (&'static str, u8) {
     let note = carried.note.get_or_insert(Note {
         string: 1,
@@ -331,7 +331,7 @@ fn anything_may_be_said_to_be_carried() {
         let mut words = vec![0; 1 + 130 * states];
         words[0] = states as u16;
         let rng = &mut round.rng;
-        given.total = given.total.min(65_536 - 4).max(given.read.min(65_536 - 4));
+        given.total = given.total.min(65_536 - 4);
         given.read = given.read.min(given.total);
         if let Some(note) = &mut given.note {
             note.pos2 = note.pos2.min(given.read + 1);
@@ -361,6 +361,25 @@ fn two(next: u16, f: u16, l: u16) -> Vec<u16> {
     words.extend([next; 128]);
     words.extend([f, l]);
     words
+}
+
+#[test]
+fn a_chain_reaches_65_536_and_no_more() {
+    // A run that goes on, and one that stops at its first character.
+    for words in [two(1, 0, 0), two(0, 0, 0)] {
+        let mut run = BurstRun::fresh();
+        for _ in 0..218 {
+            run.push(&[b'a'; 300], &words).unwrap();
+        }
+        let before = run.clone();
+        assert_eq!(run.push(&[b'a'; 137], &words), Err(Refusal(3)));
+        assert_eq!(run, before);
+        let answer = run.push(&[b'a'; 136], &words);
+        assert_eq!(answer, whole(&[b'a'; 65_536], &words));
+        assert_eq!(run.carried().total, 65_536);
+        assert_eq!(run.push(b"a", &words), Err(Refusal(3)));
+        assert_eq!(run.push(b"", &words), answer);
+    }
 }
 
 #[test]

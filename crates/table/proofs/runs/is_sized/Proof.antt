@@ -6,8 +6,6 @@ pub is-sized-spec : {M : Type 1} → statement M
 is-sized-spec =
     tie.close
     (tie.spec
-    (λ c. search sized-laws)
-    (λ c. search sized-laws)
     (λ c κs. search sized-laws)
     (λ c. search sized-laws)
     (λ c. search sized-laws)

@@ -6,7 +6,6 @@ pub run-over-spec : {M : Type 1} → statement M
 run-over-spec =
     tie.close
     (tie.spec
-    (λ c. search start-laws)
     (λ c κs. search start-laws)
     (λ c κs. search start-laws)
     (λ c. search start-laws))

@@ -2,7 +2,7 @@
 use mathlib.Core.Path.{_≡_, refl, sym, ap, _∙_}
 use mathlib.Core.Bool.{Bool, true, false, _&&_, cond, and-true, and-false}
 use mathlib.Core.List.{List, [], _∷_}
-use Prim.Native.Nat.{ℕ, zero, suc, _+_, _-_, _≤_, _<_}
+use Prim.Native.Nat.{ℕ, suc, _+_, _-_, _≤_, _<_}
 use native.Mathlib.Omega.{arith}
 use mir.Syntax.{w64}
 use mir.Val.{Fits}
@@ -16,6 +16,7 @@ use Rattle.strlib.specs.Pointer.{characters}
 use Rattle.strlib.specs.Refusal.{Outcome, refused, gives, first, also, outcome}
 use Rattle.search.specs.Search.{Result, nothing, found}
 use Rattle.table.proofs.Resuming.{resumed-is}
+use Rattle.table.proofs.Running.{note-none as by-none, note-by}
 use Rattle.table.specs.Run.{sizeOf, isSized, Walk, bad, rests, onlyIf, isRest}
 use Rattle.table.specs.Resume.{readOn, resumed}
 use Rattle.table.specs.Inner.{noteBy, restsOf, walkedOf, noteOf}
@@ -79,33 +80,23 @@ pub ruleset carried-laws = (needs, sound-is, stopped-is, going-is, note-none, no
 
 module _ (c : Carried) where
   pub rests-none : c .noted ≡ false → rests (c .state) (c .read) (noteBy 0 0 0) ≡ rests (c .state) (c .read) (carriedNote c)
-  unfolding noteBy
-  rests-none e = rw e
+  rests-none e = rw e (ap (rests (c .state) (c .read)) (by-none 0 0 0 refl))
 
   pub rests-some : c .noted ≡ true → isNote (c .read) (carriedNote c) ≡ true
       → rests (c .state) (c .read) (noteBy (c .string) (c .pos1) (c .pos2)) ≡ rests (c .state) (c .read) (carriedNote c)
-  unfolding isNote noteBy
+  unfolding isNote
   rests-some e k =
       let a : isNote (c .read) (found (c .string) (c .pos1) (c .pos2)) ≡ true = (rw e at k) in
       let b = and-both (leb 1 (c .string) && leb (c .string) 32) _ a in
-      rw e (ap (rests (c .state) (c .read)) (go (c .string) (leb-true 1 (c .string) (and-both (leb 1 (c .string)) _ (b .0) .0))))
-    where
-      go : (j : ℕ) → 1 ≤ j → noteBy j (c .pos1) (c .pos2) ≡ found j (c .pos1) (c .pos2)
-      go zero h = absurd (omega arith)
-      go (suc j) h = refl
+      let j : 1 ≤ c .string = leb-true 1 (c .string) (and-both (leb 1 (c .string)) _ (b .0) .0) in
+      rw e (ap (rests (c .state) (c .read)) (note-by (c .string) (c .pos1) (c .pos2) (λ z. omega arith)))
 
 module _ (q n d j pos1 pos2 : ℕ) (stopped : Bool) where
   pub carried-none : j ≡ 0 → carriedBy q n d nothing stopped ≡ carriedBy q n d (noteBy j pos1 pos2) stopped
-  unfolding noteBy
-  carried-none e = rw e
+  carried-none e = ap (λ (r : Result). carriedBy q n d r stopped) (sym (by-none j pos1 pos2 e))
 
   pub carried-some : (j ≡ 0 → ⊥) → carriedBy q n d (found j pos1 pos2) stopped ≡ carriedBy q n d (noteBy j pos1 pos2) stopped
-  unfolding noteBy
-  carried-some h = go j h
-    where
-      go : (j : ℕ) → (j ≡ 0 → ⊥) → carriedBy q n d (found j pos1 pos2) stopped ≡ carriedBy q n d (noteBy j pos1 pos2) stopped
-      go zero f = absurd (f refl)
-      go (suc j) f = refl
+  carried-some h = ap (λ (r : Result). carriedBy q n d r stopped) (sym (note-by j pos1 pos2 h))
 
 pub ruleset place-laws = (needs, rests-none, rests-some, carried-none, carried-some)
 

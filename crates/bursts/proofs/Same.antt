@@ -16,9 +16,9 @@ use Rattle.strlib.specs.Pointer.{pointer, storeFits, goodIn, textOf, characters
 use Rattle.strlib.specs.Refusal.{Outcome, refused, gives}
 use Rattle.strlib.specs.declared.StrPtr.{StrPtr}
 use Rattle.search.specs.Search.{Result, nothing, found, plainSearch}
-use Rattle.table.proofs.Pieces.{walk-append, again, in-walk, ReadsAll, all-enter, all-walk, NotedIn, WellNoted, well-enter, well-walk}
+use Rattle.table.proofs.Pieces.{walk-append, run-is, again, in-walk, ReadsAll, all-enter, all-walk, NotedIn, WellNoted, well-enter, well-walk}
 use Rattle.table.proofs.Running.{sized-is, run-plain, run-unsized}
-use Rattle.table.proofs.Walking.{walk-bad, RestsIn, in-enter}
+use Rattle.table.proofs.Walking.{walk-none, walk-bad, RestsIn, in-enter}
 use Rattle.table.specs.Run.{sizeOf, isSized, Walk, bad, rests, enter, walk, runOver, runRule}
 use Rattle.table.specs.Inner.{ended}
 use Rattle.states.specs.Sure.{Sure}
@@ -104,7 +104,7 @@ module _ (ws : List ℕ) (sized : isSized ws ≡ true) where
   go-on bs d ih bad i v u a = sym (ap ended (walk-bad ws (sizeOf ws) (joined bs)))
   go-on bs d ih (rests q n r) i v u a =
       let p = place-by q n d r (eqb q 0) in
-      ih (carriedBy q n d r (eqb q 0)) (runs-by ws q n d r (i .0) (i .1) v u) (rw p a)
+      ih (carriedBy q n d r (eqb q 0)) (runs-by ws q n d r (i .0) (i .1) v u) (ap (again ws) p ∙ a ∙ sym p)
       ∙ ap (λ (w : Walk). ended (walk ws (sizeOf ws) (joined bs) w)) p
 
   -- one burst from a state that is entered, for the first time or anew
@@ -118,8 +118,7 @@ module _ (ws : List ℕ) (sized : isSized ws ≡ true) where
       ∙ sym (ap ended (walk-append ws (sizeOf ws) b (joined bs) (enter ws (c .state) (c .read) (carriedNote c)))))
 
   rest-same : (bs : List (List ℕ)) (d : ℕ) → Short bs → d + length (joined bs) ≤ 65536 → characters (joined bs) ≡ true → Continues ws bs d
-  unfolding walk again
-  rest-same [] d short total plain = λ c k a. refl
+  rest-same [] d short total plain = λ c k a. ap ended (sym (walk-none ws (sizeOf ws) (place c)))
   rest-same (b ∷ bs) d short total plain =
       let l : length (b ++ joined bs) ≡ length b + length (joined bs) = length-append b (joined bs) in
       let p = and-both (characters b) (characters (joined bs)) (sym (characters-append b (joined bs)) ∙ plain) in
@@ -169,12 +168,13 @@ bursts-carried ws b bs c e =
 -- the bursts joined as one text, whatever store holds it
 from-fresh : (ws b : List ℕ) (bs : List (List ℕ)) → isSized ws ≡ true → Short (b ∷ bs) → length (joined (b ∷ bs)) ≤ 65536 → characters (joined (b ∷ bs)) ≡ true
     → lastAnswer (bursts fresh (b ∷ bs) ws) ≡ ended (runOver ws (joined (b ∷ bs)))
-unfolding fresh runOver
+unfolding fresh
 from-fresh ws b bs z short total plain =
     let l : length (b ++ joined bs) ≡ length b + length (joined bs) = length-append b (joined bs) in
     let p = and-both (characters b) (characters (joined bs)) (sym (characters-append b (joined bs)) ∙ plain) in
     one-more ws z b bs 0 fresh (fresh-runs ws z) (short .0) (omega arith) (p .0)
     (rest-same ws z bs (0 + length b) (short .1) (omega arith) (p .1))
+    ∙ ap ended (sym (run-is ws (b ++ joined bs)))
 
 -- words that are no table are refused with the first burst
 fresh-unsized : (ws b : List ℕ) → isSized ws ≡ false → length b ≤ 300 → characters b ≡ true → beforeBurst fresh b ws ≡ 10

@@ -13,9 +13,9 @@ use Rattle.strlib.proofs.Texts.{characters-append}
 use Rattle.strlib.specs.Pointer.{all, characters, readable}
 use Rattle.strlib.specs.Refusal.{Outcome, refused, gives, outcome}
 use Rattle.search.specs.Search.{Result, nothing, found}
-use Rattle.table.proofs.Pieces.{walk-append, again, again-enter, again-walk}
+use Rattle.table.proofs.Pieces.{walk-append, run-is, again, again-enter, again-walk}
 use Rattle.table.proofs.Running.{run-plain}
-use Rattle.table.proofs.Walking.{walk-stop}
+use Rattle.table.proofs.Walking.{enter-stop, walk-none, walk-stop}
 use Rattle.table.specs.Run.{sizeOf, Walk, bad, rests, enter, walk, runOver}
 use Rattle.table.specs.Inner.{ended}
 use Rattle.bursts.specs.Bursts.{carriedNote, carriedBy, fresh, agrees, beforeBurst, walked, burstRule}
@@ -56,7 +56,7 @@ took c b ws c′ e = go (beforeBurst c b ws) refl
 -- ---- all bursts, none refused
 
 walked-again : (c : Carried) (b ws : List ℕ) → again ws (place c) ≡ place c → walked c b ws ≡ walk ws (sizeOf ws) b (place c)
-unfolding again walked
+unfolding walked
 walked-again c b ws e = ap (walk ws (sizeOf ws) b) e
 
 pub again-walked : (c : Carried) (b ws : List ℕ) → again ws (walked c b ws) ≡ walked c b ws
@@ -74,8 +74,8 @@ record Ends (ws h : List ℕ) (c c′ : Carried) : Type 0 where
   pub same : walk ws (sizeOf ws) h (place c) ≡ place c′
 
 rest-ends : (ws : List ℕ) (bs : List (List ℕ)) (c c′ : Carried) → again ws (place c) ≡ place c → bursts c bs ws ≡ gives c′ → Ends ws (joined bs) c c′
-unfolding walk characters all
-rest-ends ws [] c c′ a e = let z : c ≡ c′ = cc in record { plain = refl; same = ap place z }
+unfolding characters all
+rest-ends ws [] c c′ a e = let z : c ≡ c′ = cc in record { plain = refl; same = walk-none ws (sizeOf ws) (place c) ∙ ap place z }
 rest-ends ws (b ∷ bs) c c′ a e =
     outcome-case (burstRule c b ws)
     (λ k p. absurd (gives≢refused k c′ (rw p at e)))
@@ -87,8 +87,8 @@ rest-ends ws (b ∷ bs) c c′ a e =
     })
 
 fresh-over : (ws b h : List ℕ) (c c′ : Carried) → walked fresh b ws ≡ place c → walk ws (sizeOf ws) h (place c) ≡ place c′ → runOver ws (b ++ h) ≡ place c′
-unfolding runOver walked fresh
-fresh-over ws b h c c′ p q = walk-append ws (sizeOf ws) b h (enter ws 1 0 nothing) ∙ ap (walk ws (sizeOf ws) h) p ∙ q
+unfolding walked fresh
+fresh-over ws b h c c′ p q = run-is ws (b ++ h) ∙ walk-append ws (sizeOf ws) b h (enter ws 1 0 nothing) ∙ ap (walk ws (sizeOf ws) h) p ∙ q
 
 pub bursts-whole : BurstsWhole
 unfolding readable
@@ -114,8 +114,8 @@ bursts-taken ws (b ∷ bs) c =
 -- ---- a burst after the stop
 
 walked-stop : (c : Carried) (b ws : List ℕ) → c .state ≡ 0 → walked c b ws ≡ rests 0 (c .read) (carriedNote c)
-unfolding walked enter
-walked-stop c b ws e = rw e (walk-stop ws (sizeOf ws) b (c .read) (carriedNote c))
+unfolding walked
+walked-stop c b ws e = rw (e, enter-stop ws (c .read) (carriedNote c)) (walk-stop ws (sizeOf ws) b (c .read) (carriedNote c))
 
 pub after-stop : AfterStop
 unfolding outcome agrees

@@ -10,7 +10,8 @@ use lib.ListN.{length}
 use borrow.Author.Tests.{leb-true}
 use Rattle.strlib.proofs.Refusing.{bool-case, and-both}
 use Rattle.search.specs.Search.{Result, nothing, found}
-use Rattle.table.specs.Run.{wordOf, Walk, bad, rests, onlyIf, noted, enter, step, walk}
+use Rattle.table.specs.Run.{wordOf, Walk, bad, rests, onlyIf, noted, enter, step, walk, runOver}
+use Rattle.table.specs.Resume.{readOn}
 use Rattle.table.proofs.Walking.{RestsIn, in-step}
 
 -- ---- a text in two parts
@@ -20,25 +21,28 @@ unfolding walk
 walk-append ws size [] b w = refl
 walk-append ws size (c ∷ a) b w = walk-append ws size a b (step ws size w c)
 
+pub run-is : (ws h : List ℕ) → runOver ws h ≡ readOn ws h 1 0 nothing
+unfolding runOver
+run-is ws h = refl
+
 -- ---- to enter a state anew changes nothing
 
-unfoldable pub again : List ℕ → Walk → Walk
+abbrev pub again : List ℕ → Walk → Walk
 again ws bad = bad
 again ws (rests q n r) = enter ws q n r
 
 again-noted : (ws : List ℕ) (q f l n : ℕ) (r : Result) → wordOf ws (suc q) 128 ≡ f → wordOf ws (suc q) 129 ≡ l
     → again ws (noted (suc q) f l n r) ≡ noted (suc q) f l n r
-unfolding again enter
+unfolding enter
 again-noted ws q zero l n r e d = rw e
 again-noted ws q (suc k) l n r e d = bool-case (leb (suc k) 32 && leb l n) (λ p. rw p (rw (e, d, p))) (λ p. rw p)
 
 pub again-enter : (ws : List ℕ) (q n : ℕ) (r : Result) → again ws (enter ws q n r) ≡ enter ws q n r
-unfolding again enter
+unfolding enter
 again-enter ws zero n r = refl
 again-enter ws (suc q) n r = again-noted ws q (wordOf ws (suc q) 128) (wordOf ws (suc q) 129) n r refl refl
 
 again-only : (ws : List ℕ) (b : Bool) (w : Walk) → again ws w ≡ w → again ws (onlyIf b w) ≡ onlyIf b w
-unfolding again
 again-only ws true w e = e
 again-only ws false w e = refl
 

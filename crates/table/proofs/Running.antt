@@ -27,12 +27,12 @@ positive : (q : ℕ) → (q ≡ 0 → ⊥) → 0 < q
 positive zero y = absurd (y refl)
 positive (suc q) y = omega arith
 
-note-by : (g a b : ℕ) → (g ≡ 0 → ⊥) → noteBy g a b ≡ found g a b
+pub note-by : (g a b : ℕ) → (g ≡ 0 → ⊥) → noteBy g a b ≡ found g a b
 unfolding noteBy
 note-by zero a b y = absurd (y refl)
 note-by (suc g) a b y = refl
 
-note-none : (g a b : ℕ) → g ≡ 0 → noteBy g a b ≡ nothing
+pub note-none : (g a b : ℕ) → g ≡ 0 → noteBy g a b ≡ nothing
 unfolding noteBy
 note-none g a b e = rw e
 

@@ -25,6 +25,16 @@ unfolding step
 step-pos ws size zero n r c h = absurd (omega arith)
 step-pos ws size (suc q) n r c h = refl
 
+-- ---- at state 0, and at a text's end
+
+pub enter-stop : (ws : List ℕ) (n : ℕ) (r : Result) → enter ws zero n r ≡ rests zero n r
+unfolding enter
+enter-stop ws n r = refl
+
+pub walk-none : (ws : List ℕ) (size : ℕ) (w : Walk) → walk ws size [] w ≡ w
+unfolding walk
+walk-none ws size w = refl
+
 -- ---- a refused run, and one that stopped, stay so
 
 pub walk-bad : (ws : List ℕ) (size : ℕ) (h : List ℕ) → walk ws size h bad ≡ bad

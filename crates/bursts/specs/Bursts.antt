@@ -47,11 +47,13 @@ isSound c = agrees (c .stopped) (c .state) && (leb (c .read) (c .total) && isNot
 unfoldable pub isCarried : ℕ → Carried → Bool
 isCarried size c = ltb (c .state) size && isSound c
 
--- before any of a burst is read, stopped or not: its length, and the total with it; its characters; the table's size; what is carried
+-- a burst's length, and the total with it, stopped text included; its characters
+abbrev pub deliveryChecks : Carried → List ℕ → List (ℕ × Bool)
+deliveryChecks c burst = (3, leb (length burst) 300) ∷ (3, leb (c .total + length burst) 65536) ∷ (2, characters burst) ∷ []
+
+-- before any of a burst is read, stopped or not: these, then the table's size, then what is carried
 abbrev pub beforeBurstChecks : Carried → List ℕ → List ℕ → List (ℕ × Bool)
-beforeBurstChecks c burst ws =
-    (3, leb (length burst) 300) ∷ (3, leb (c .total + length burst) 65536) ∷ (2, characters burst) ∷ (10, isSized ws)
-    ∷ (10, isCarried (sizeOf ws) c) ∷ []
+beforeBurstChecks c burst ws = deliveryChecks c burst ++ ((10, isSized ws) ∷ (10, isCarried (sizeOf ws) c) ∷ [])
 
 unfoldable pub beforeBurst : Carried → List ℕ → List ℕ → ℕ
 beforeBurst c burst ws = first (beforeBurstChecks c burst ws)

@@ -94,9 +94,9 @@ module _ (ss : List (List ℕ)) (h : List ℕ) where
   passed-none = rw (le-leb 0 (length h) (omega arith)) (moved-none (plainSearch ss h))
 
   module _ (p : ℕ) (o : Passed ss h p) where
-    pub passed-all : (n pos1 pos2 : ℕ) → n ≡ 0 → length h < p → placed n pos1 pos2 ≡ plainSearch ss h
+    pub passed-all : (n k pos1 pos2 : ℕ) → n ≡ k → k ≡ 0 → length h < p → placed n pos1 pos2 ≡ plainSearch ss h
     unfolding Passed placed
-    passed-all n pos1 pos2 z m = rw z (sym (o ∙ rw (lt-leb p (length h) m)))
+    passed-all n k pos1 pos2 e z m = rw (e, z) (sym (o ∙ rw (lt-leb p (length h) m)))
 
     module _ (m : p ≤ length h) where
       here : plainSearch ss h ≡ moved p (plainSearch ss (drop p h))

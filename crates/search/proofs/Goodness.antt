@@ -11,7 +11,7 @@ use lib.Seq.{take-add, drop-drop, take-take}
 use Rattle.strlib.proofs.Pointing.{good-part}
 use Rattle.strlib.proofs.Refusing.{outcome-gave, outcome-yes}
 use Rattle.strlib.proofs.Storing.{drop-take}
-use Rattle.strlib.specs.Pointer.{partOf, goodIn, textOf, texts}
+use Rattle.strlib.specs.Pointer.{partAt, partOf, goodIn, textOf, texts}
 use Rattle.strlib.specs.Refusal.{gives, outcome, at}
 use Rattle.strlib.specs.declared.StrPtr.{StrPtr}
 use Rattle.search.specs.Search.{Result, nothing, found}
@@ -22,25 +22,25 @@ use Rattle.search.specs.Whole.{Parts, Halves}
 use Rattle.search.specs.declared.Match.{Match}
 use Rattle.search.specs.declared.Split.{Split}
 use Rattle.search.proofs.Meaning.{search-law}
-use Rattle.search.proofs.Answering.{checked, within}
+use Rattle.search.proofs.Answering.{search-passed, within, within-first, within-last}
 
 -- ---- parts of a string
 
 -- the characters of a part that lies in the string
 part-text : (s : List ℕ) (p : StrPtr) (skip n m : ℕ) → skip + n ≤ p .length → textOf s (partOf p skip n m) ≡ take n (drop skip (textOf s p))
-unfolding textOf partOf
+unfolding textOf partOf partAt
 part-text s p skip n m h = rw (drop-take skip (p .length) (drop (p .start) s), take-take n (p .length - skip) (drop skip (drop (p .start) s)) (omega arith), drop-drop)
 
 -- two parts, one behind the other
 parts-join : (s : List ℕ) (p : StrPtr) (a b n m x y z : ℕ) → b ≡ a + n → textOf s (partOf p a n x) ++ textOf s (partOf p b m y) ≡ textOf s (partOf p a (n + m) z)
-unfolding textOf partOf
+unfolding textOf partOf partAt
 parts-join s p a b n m x y z e =
     let q : p .start + b ≡ p .start + a + n = omega arith in
     rw (q, ← (drop-drop n (p .start + a) s)) (sym (take-add n m (drop (p .start + a) s)))
 
 -- the whole string as a part
 part-whole : (s : List ℕ) (p : StrPtr) (n z : ℕ) → n ≡ p .length → textOf s (partOf p 0 n z) ≡ textOf s p
-unfolding textOf partOf
+unfolding textOf partOf partAt
 part-whole s p n z e = rw (e, add-zero)
 
 -- ---- the parts of a match
@@ -66,7 +66,7 @@ module _ (s : List ℕ) (host : StrPtr) (l : List StrPtr) (c : ℕ) where
 
   module _ {j pos1 pos2 : ℕ} (e : FoundAt j pos1 pos2) where
     host-good : goodIn (length s) host ≡ true
-    host-good = checked s host l c 0 (sym (outcome-gave _ _ _ e .0)) refl .1 .1 .0
+    host-good = search-passed s host l c (outcome-gave _ _ _ e .0) .host-good
 
     -- the match's characters, by the search's law
     match-text : textOf s (partOf host (pos1 - 1) (pos2 - pos1) (pos2 - pos1)) ≡ stringOf strings j
@@ -97,14 +97,10 @@ module _ (s : List ℕ) (host : StrPtr) (l : List StrPtr) (c : ℕ) where
         }
 
     first-half : Halves s host (splitOf host j pos1)
-    first-half =
-        let w : Within host pos1 pos2 = within s host l c j pos1 pos2 e in
-        halves s host j pos1 host-good (record { from = w .from; order = omega arith; to = omega arith; room = w .room; end = w .end })
+    first-half = halves s host j pos1 host-good (within-first host pos1 pos2 (within s host l c j pos1 pos2 e))
 
     last-half : Halves s host (splitOf host j pos2)
-    last-half =
-        let w : Within host pos1 pos2 = within s host l c j pos1 pos2 e in
-        halves s host j pos2 host-good (record { from = omega arith; order = omega arith; to = w .to; room = w .room; end = w .end })
+    last-half = halves s host j pos2 host-good (within-last host pos1 pos2 (within s host l c j pos1 pos2 e))
 
   -- ---- the answers of the calls
 

@@ -80,6 +80,10 @@ words-next (c ∷ cs) = go (words-next cs) (eqb c 32) refl
     go r true e = rw e r
     go r false e = rw (e, lt-ltb 0 (suc (length (upTo 32 cs))) (omega arith)) (ap (λ (l : List (List ℕ)). (c ∷ upTo 32 cs) ∷ l) (words-past cs))
 
+pub word-found : (s : List ℕ) (at from to : ℕ) → from ≡ blanksEnd s at → to ≡ endOf 32 s from → record { from = from; to = to; next = to } ≡ nextWord s at
+unfolding nextWord
+word-found s at from to e f = rw (f, e)
+
 module _ (s : List ℕ) (at : ℕ) where
   abbrev w : Piece
   w = nextWord s at

@@ -35,7 +35,7 @@ upTo-le b (c ∷ cs) = go (upTo-le b cs) (eqb c b)
     go r true = omega arith
     go r false = omega arith
 
-blanks-le : (s : List ℕ) → blankCount s ≤ length s
+pub blanks-le : (s : List ℕ) → blankCount s ≤ length s
 unfolding blankCount
 blanks-le [] = omega arith
 blanks-le (c ∷ cs) = go (blanks-le cs) (eqb c 32)

@@ -18,7 +18,7 @@ use Rattle.strlib.proofs.Refusing.{bool-case, and-both}
 use Rattle.strlib.proofs.Pointing.{leb-same}
 use Rattle.strlib.specs.Pointer.{all}
 use Rattle.strlib.specs.Refusal.{Outcome, refused, gives, outcome}
-use Rattle.words.proofs.Ending.{blanks-front}
+use Rattle.words.proofs.Ending.{rest-is, blanks-front}
 use Rattle.words.proofs.Wording.{blanks-le}
 use Rattle.words.specs.Ends.{blankCount, blanksEnd}
 use Rattle.number.proofs.Ranging.{base-is}
@@ -26,10 +26,6 @@ use Rattle.number.proofs.Holding.{held-reads}
 use Rattle.number.specs.Limits.{isBase, inRange}
 use Rattle.number.specs.Text.{unblanked, minus, unsigned, isDigit, areDigits, isNumber, value, signed, numberOf}
 use Rattle.number.specs.Inner.{reads}
-
--- a slice from index i to its end
-pub rest-is : (s : List ℕ) (i : ℕ) → take (length s - i) (drop i s) ≡ drop i s
-rest-is s i = take-all (length s - i) (drop i s) (simp length-drop (omega arith))
 
 -- ---- blanks and the minus
 

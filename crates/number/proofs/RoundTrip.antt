@@ -5,7 +5,7 @@ use mathlib.Core.Bool.{true}
 use mathlib.Core.List.{List}
 use Prim.Native.Nat.{ℕ, suc, _+_, _≤_}
 use native.Mathlib.Omega.{arith}
-use lib.IntN.{ℤ, pos, negsuc}
+use lib.IntN.{ℤ, pos, negsuc, natAbs}
 use lib.ListN.{length}
 use borrow.Author.Tests.{le-leb}
 use Rattle.strlib.proofs.Refusing.{ruled-gave}
@@ -17,6 +17,7 @@ use Rattle.strlib.specs.Store.{put}
 use Rattle.strlib.specs.declared.StrPtr.{StrPtr}
 use Rattle.number.proofs.Ranging.{range-mag}
 use Rattle.number.proofs.Counting.{digits-few}
+use Rattle.number.proofs.Writing.{written-under}
 use Rattle.number.proofs.Calling.{WritePassed, write-passed}
 use Rattle.number.proofs.ReadBack.{digits-say, plain-number, minus-number, are-characters}
 use Rattle.number.specs.Limits.{isBase, inRange}
@@ -40,9 +41,7 @@ text-characters base (negsuc n) g r =
     are-characters base (digits base (suc n)) (suc n) (digits-say base g (suc n) (omega (arith, range-mag (negsuc n) r))) g
 
 room : (base : ℕ) (z : ℤ) → length (written base z) ≤ 37
-unfolding written sign
-room base (pos n) = omega (arith, digits-few base n)
-room base (negsuc n) = omega (arith, digits-few base (suc n))
+room base z = written-under base z 36 (digits-few base (natAbs z))
 
 -- ---- calls
 

@@ -77,6 +77,12 @@ unfolding sign
 sign-is (pos n) = rw (le-ltb n 0 (omega arith))
 sign-is (negsuc n) = refl
 
+-- a text is no longer than its digits and a sign
+pub written-under : (base : ℕ) (z : ℤ) (n : ℕ) → length (digits base (natAbs z)) ≤ n → length (written base z) ≤ suc n
+unfolding written sign
+written-under base (pos m) n h = omega arith
+written-under base (negsuc m) n h = omega arith
+
 -- z is what the machine reads back from the bits of z′
 
 module _ (base m count : ℕ) (z z′ : ℤ) (ez : z ≡ z′) (em : m ≡ natAbs z) where

@@ -8,8 +8,8 @@ use native.Mathlib.Omega.{arith}
 use borrow.Author.Needs.{needs}
 use borrow.Author.Tests.{eq-eqb, ne-eqb}
 use lib.Dec.{eqb}
-use lib.ListN.{length, getD, drop, drop-of-length-le}
-use lib.Seq.{drop-cons}
+use lib.ListN.{length, getD, take, drop, length-drop, drop-of-length-le}
+use lib.Seq.{drop-cons, take-all}
 use Rattle.strlib.specs.Pointer.{pointer}
 use Rattle.strlib.specs.declared.StrPtr.{StrPtr}
 use Rattle.words.specs.Ends.{upTo, blankCount, blanksEnd, endOf}
@@ -43,6 +43,10 @@ module _ (b : ℕ) (s : List ℕ) (at i : ℕ) (e : endOf b s at ≡ endOf b s i
   pub end-last : length s ≤ i → i ≡ endOf b s at
   unfolding endOf upTo
   end-last h = sym (e ∙ (let q : length (upTo b (drop i s)) ≡ 0 = rw (drop-of-length-le s h) in omega arith))
+
+-- a slice from a place on to its end
+pub rest-is : (s : List ℕ) (i : ℕ) → take (length s - i) (drop i s) ≡ drop i s
+rest-is s i = take-all (length s - i) (drop i s) (simp length-drop (omega arith))
 
 -- the blanks in front of a whole text
 pub blanks-front : (s : List ℕ) → blanksEnd s 0 ≡ blankCount s

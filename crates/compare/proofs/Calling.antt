@@ -1,10 +1,10 @@
 -- Laws of the call: its checks in turn, and its two answers. Assumes nothing.
-use mathlib.Core.Path.{_≡_, refl, sym, ap, _∙_}
+use mathlib.Core.Path.{_≡_, refl, sym, _∙_}
 use mathlib.Core.Bool.{Bool, true, false, cond}
 use mathlib.Core.List.{List}
 use Prim.Native.Nat.{ℕ, _+_, _<_}
 use native.Mathlib.Omega.{arith}
-use lib.Dec.{leb, ltb, eqb}
+use lib.Dec.{leb, ltb}
 use lib.IntN.{ℤ, pos}
 use lib.ListN.{length, getD}
 use lib.Signed.{ltZ}
@@ -16,7 +16,6 @@ use Rattle.strlib.specs.Refusal.{refused, gives, also}
 use Rattle.strlib.specs.declared.StrPtr.{StrPtr}
 use Rattle.compare.specs.Order.{orderZ, orderN, signOf}
 use Rattle.compare.specs.Compare.{holds, lengthDecides, translates, translated, orderAt, pairs, unequalFrom, decided, decision, comparison, compareChecks, compareRefusal, compareRule}
-use Rattle.compare.specs.declared.Comparison.{Comparison}
 use Rattle.compare.specs.declared.Decision.{Decision}
 
 -- t′ is what the machine reads back from the bits of t

@@ -1,7 +1,7 @@
 -- Laws of what decides a comparison: the loop leaves off at the first unequal pair, since what is left to look at decides as the whole
 -- does. Assumes nothing.
-use mathlib.Core.Path.{_≡_, refl, sym, ap, _∙_}
-use mathlib.Core.Bool.{Bool, true, false, cond, not, _&&_}
+use mathlib.Core.Path.{_≡_, refl, sym, _∙_}
+use mathlib.Core.Bool.{Bool, true, false, cond}
 use mathlib.Core.List.{List, [], _∷_}
 use Prim.Native.Nat.{ℕ, zero, suc, _+_, _-_, _≤_, _<_, _*_, _^_, min, max}
 use native.Mathlib.Nat.{not-suc-le-zero, le-of-suc-le-suc, zero-add}
@@ -10,7 +10,6 @@ use native.Mathlib.Omega.{arith}
 use lib.Dec.{eqb, ltb}
 use lib.IntN.{ℤ, pos, _+ℤ_}
 use lib.ListN.{length, getD, List·getD-eq-default}
-use lib.Signed.{ltZ}
 use mir.Syntax.{w64}
 use mir.Val.{Fits}
 use borrow.Author.Count.{below-more}
@@ -19,7 +18,6 @@ use borrow.Author.Tests.{ltb-true, ltb-false, eqb-true, eqb-false, eq-eqb, ne-eq
 use Rattle.strlib.proofs.Refusing.{bool-case}
 use Rattle.compare.specs.Order.{orderZ, orderN}
 use Rattle.compare.specs.Compare.{pairs, lengthDecides, translated, orderAt, unequalFrom, FirstUnequal, decided, decision}
-use Rattle.compare.specs.declared.Decision.{Decision}
 
 getD-any : (l : List ℕ) (i d e : ℕ) → i < length l → getD l i d ≡ getD l i e
 getD-any [] i d e h = absurd (not-suc-le-zero h)

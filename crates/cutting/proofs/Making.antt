@@ -1,19 +1,19 @@
 -- Laws of the part that is cut out: within the bounds each difference is a number, and the arms of the code make the part of the
 -- definition. Assumes nothing.
-use mathlib.Core.Path.{_≡_, refl, sym, ap, _∙_}
-use mathlib.Core.Bool.{Bool, true, false, cond}
-use mathlib.Core.List.{List, [], _∷_}
-use Prim.Native.Nat.{ℕ, _+_, _-_, _≤_, _<_, _*_, _^_}
+use mathlib.Core.Path.{_≡_, refl, sym, _∙_}
+use mathlib.Core.Bool.{Bool, true}
+use mathlib.Core.List.{List}
+use Prim.Native.Nat.{ℕ, _+_, _-_, _≤_}
 use native.Mathlib.Omega.{arith}
 use lib.ListN.{length}
 use borrow.Author.Needs.{needs}
 use borrow.Author.Tests.{leb-true}
 use Rattle.strlib.proofs.Refusing.{also-true, first-is, passed, outcome-no, outcome-yes}
 use Rattle.strlib.proofs.Pointing.{good-is}
-use Rattle.strlib.specs.Pointer.{pointer, sized, partOf, storeFits, goodIn, textOf, readable}
+use Rattle.strlib.specs.Pointer.{sized, partOf, storeFits, goodIn, textOf, readable}
 use Rattle.strlib.specs.Refusal.{refused, gives, also}
 use Rattle.strlib.specs.declared.StrPtr.{StrPtr}
-use Rattle.cutting.proofs.Bounding.{counted-is, between-is, trimmed-le}
+use Rattle.cutting.proofs.Bounding.{counted-is, between-is}
 use Rattle.cutting.specs.Cutting.{trimmed, second, inBounds, cutOf, cutReads, cutChecks, cutRefusal, cutRule}
 use Rattle.cutting.specs.Inner.{Cuttable, Inside}
 use Rattle.cutting.specs.declared.Cut.{Cut}

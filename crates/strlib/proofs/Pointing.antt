@@ -1,7 +1,7 @@
 -- Laws of one pointer: the tests of the code are those of the definitions. Assumes nothing.
 use mathlib.Core.Path.{_≡_, refl, sym, _∙_}
 use mathlib.Core.Bool.{Bool, true, false, _&&_, and-true, and-false, and-assoc}
-use mathlib.Core.List.{List, [], _∷_}
+use mathlib.Core.List.{List}
 use Prim.Native.Nat.{ℕ, suc, _+_, _-_, _≤_, _<_, min, max}
 use native.Mathlib.Nat.{sub-self}
 use native.Mathlib.Numerals.{add-one}
@@ -12,7 +12,7 @@ use lib.Seq.{drop-cons, take-all, take-nil}
 use borrow.Author.Needs.{needs}
 use borrow.Author.Tests.{leb-true, leb-false, le-leb, lt-leb}
 use Rattle.strlib.proofs.Refusing.{and-both}
-use Rattle.strlib.specs.Pointer.{pointer, storeFits, within, goodIn, sized, partAt, partOf, textOf, all, characters, readable, apart}
+use Rattle.strlib.specs.Pointer.{pointer, storeFits, within, goodIn, sized, partOf, textOf, all, characters, readable, apart}
 use Rattle.strlib.specs.Refusal.{also}
 use Rattle.strlib.specs.declared.StrPtr.{StrPtr}
 
@@ -42,22 +42,18 @@ fits-is s e = leb-true (length s) 65536 e
 
 module _ (size a n : ℕ) where
   pub within-over : size < n → false ≡ within size a n
-  unfolding within
   within-over h = sym (lt-leb (a + n) size (omega arith))
 
   pub within-last : n ≤ size → leb a (size - n) ≡ within size a n
-  unfolding within
   within-last h = leb-same a (size - n) (a + n) size (λ z. omega arith) (λ z. omega arith)
 
   pub within-is : within size a n ≡ true → a + n ≤ size
-  unfolding within
   within-is e = leb-true (a + n) size e
 
   pub within-so : (b : Bool) → b ≡ within size a n → b ≡ true → a + n ≤ size
   within-so b e f = within-is (sym e ∙ f)
 
   pub is-within : a + n ≤ size → within size a n ≡ true
-  unfolding within
   is-within h = le-leb (a + n) size h
 
 -- ---- good pointers
@@ -77,7 +73,7 @@ good-sized n p l e h = is-good n (sized p l) h (good-is n p e .1)
 
 -- a part whose room ends no later
 pub good-part : (n : ℕ) (p : StrPtr) (skip l m : ℕ) → goodIn n p ≡ true → l ≤ m → skip + m ≤ p .maximum → goodIn n (partOf p skip l m) ≡ true
-unfolding partOf partAt
+unfolding partOf
 good-part n p skip l m e h k = is-good n (partOf p skip l m) h (omega (arith, good-is n p e .1))
 
 pub text-length : (s : List ℕ) (p : StrPtr) → goodIn (length s) p ≡ true → length (textOf s p) ≡ p .length

@@ -14,7 +14,7 @@ pointer a n m = record { start = a; length = n; maximum = m }
 unfoldable pub sized : StrPtr → ℕ → StrPtr
 sized p n = record { start = p .start; length = n; maximum = p .maximum }
 
-unfoldable pub partAt : StrPtr → ℕ → ℕ → ℕ → StrPtr
+abbrev pub partAt : StrPtr → ℕ → ℕ → ℕ → StrPtr
 partAt p a n m = record { start = a; length = n; maximum = m }
 
 -- the part that begins `skip` behind the string's start
@@ -26,7 +26,7 @@ unfoldable pub storeFits : List ℕ → Bool
 storeFits s = leb (length s) 65536
 
 -- the n bytes from index a on lie in a store of this size, a whole-number sum
-unfoldable pub within : ℕ → ℕ → ℕ → Bool
+abbrev pub within : ℕ → ℕ → ℕ → Bool
 within size a n = leb (a + n) size
 
 -- a pointer is good for a store of n bytes if length ≤ maximum and start + maximum ≤ n

@@ -3,7 +3,7 @@ use Rattle.strlib.proofs.StrPtr.part.Statement.{statement}
 use Rattle.strlib.proofs.StrPtr.part.Tie as tie
 
 returns : tie.Need-returns
-unfolding pointer partAt
+unfolding pointer
 returns c = c .new .ensures
 
 pub part-spec : {M : Type 1} → statement M

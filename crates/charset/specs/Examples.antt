@@ -4,7 +4,7 @@ use mathlib.Core.Path.{_≡_, refl}
 use mathlib.Core.Bool.{true, false}
 use mathlib.Core.List.{List}
 use lib.ListN.{replicate}
-use Rattle.strlib.specs.Pointer.{pointer, storeFits, within, goodIn, textOf, all, characters, readable}
+use Rattle.strlib.specs.Pointer.{pointer, storeFits, goodIn, textOf, all, characters, readable}
 use Rattle.strlib.specs.Quoted.{bytes}
 use Rattle.strlib.specs.Refusal.{refused, gives, outcome, after, ruled, nowhere, at}
 use Rattle.charset.specs.Rule.{blockRefusal, tablesRule, setRefusal, charactersRule, orElse, chosen, foundAt, foundFrom, findRule}
@@ -38,7 +38,7 @@ pub record Examples : Type 0 where
   pub cleared : tablesRule false vowels 2 ≡ (gives tt, empty)
 
 pub examples : Examples
-unfolding pointer storeFits within goodIn textOf all characters readable outcome after ruled blockRefusal tablesRule setRefusal charactersRule orElse chosen foundAt foundFrom findRule blockFits maskFits turned turnedAll turnedAt inTables
+unfolding pointer storeFits goodIn textOf all characters readable outcome after ruled blockRefusal tablesRule setRefusal charactersRule orElse chosen foundAt foundFrom findRule blockFits maskFits turned turnedAll turnedAt inTables
 examples =
     record {
       on = refl;

@@ -3,7 +3,7 @@ use Prim.Native.Nat.{ℕ, _+_, _-_}
 use mathlib.Core.Path.{_≡_, refl}
 use mathlib.Core.List.{List, [], _∷_, _++_}
 use Rattle.strlib.specs.Quoted.{bytes}
-use Rattle.strlib.specs.Pointer.{pointer, sized, partAt, partOf, storeFits, within, goodIn, textOf, all, characters, readable}
+use Rattle.strlib.specs.Pointer.{pointer, sized, partOf, storeFits, goodIn, textOf, all, characters, readable}
 use Rattle.strlib.specs.Refusal.{refused, gives, outcome}
 use Rattle.strlib.specs.declared.StrPtr.{StrPtr}
 use Rattle.cutting.specs.Cutting.{blanks, trimmed, second, countedIn, betweenIn, inBounds, cutOf, cutReads, cutRefusal, cutRule}
@@ -48,7 +48,7 @@ pub record Examples : Type 0 where
 
 pub examples : Examples
 unfolding
-    pointer sized partAt partOf storeFits within goodIn textOf all characters readable outcome blanks trimmed second countedIn betweenIn inBounds cutOf cutReads cutRefusal
+    pointer sized partOf storeFits goodIn textOf all characters readable outcome blanks trimmed second countedIn betweenIn inBounds cutOf cutReads cutRefusal
     cutRule whole sliceCut
 examples =
     record {

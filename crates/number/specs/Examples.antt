@@ -4,7 +4,7 @@ use mathlib.Core.Path.{_≡_, refl}
 use mathlib.Core.List.{List, [], _∷_, _++_}
 use lib.IntN.{ℤ, pos, negsuc}
 use lib.ListN.{length}
-use Rattle.strlib.specs.Pointer.{pointer, sized, storeFits, within, goodIn, textOf, all, characters, readable}
+use Rattle.strlib.specs.Pointer.{pointer, sized, storeFits, goodIn, textOf, all, characters, readable}
 use Rattle.strlib.specs.Refusal.{Outcome, refused, gives, outcome, after, ruled}
 use Rattle.strlib.specs.Store.{put}
 use Rattle.number.specs.Limits.{isBase, inRange}
@@ -58,7 +58,7 @@ pub record Examples : Type 0 where
 
 pub examples : Examples
 unfolding
-    pointer sized storeFits within goodIn textOf all characters readable outcome after ruled put isBase inRange unblanked minus unsigned isDigit areDigits isNumber
+    pointer sized storeFits goodIn textOf all characters readable outcome after ruled put isBase inRange unblanked minus unsigned isDigit areDigits isNumber
     value signed numberOf digitsIn digits sign written readRefusal readRule writeRefusal writeRule
 examples =
     record {

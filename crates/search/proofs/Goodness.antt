@@ -11,7 +11,7 @@ use lib.Seq.{take-add, drop-drop, take-take}
 use Rattle.strlib.proofs.Pointing.{good-part}
 use Rattle.strlib.proofs.Refusing.{outcome-gave, outcome-yes}
 use Rattle.strlib.proofs.Storing.{drop-take}
-use Rattle.strlib.specs.Pointer.{partAt, partOf, goodIn, textOf, texts}
+use Rattle.strlib.specs.Pointer.{partOf, goodIn, textOf, texts}
 use Rattle.strlib.specs.Refusal.{gives, outcome, at}
 use Rattle.strlib.specs.declared.StrPtr.{StrPtr}
 use Rattle.search.specs.Search.{Result, nothing, found}
@@ -28,19 +28,19 @@ use Rattle.search.proofs.Answering.{search-passed, within, within-first
 
 -- the characters of a part that lies in the string
 part-text : (s : List ℕ) (p : StrPtr) (skip n m : ℕ) → skip + n ≤ p .length → textOf s (partOf p skip n m) ≡ take n (drop skip (textOf s p))
-unfolding textOf partOf partAt
+unfolding textOf partOf
 part-text s p skip n m h = rw (drop-take skip (p .length) (drop (p .start) s), take-take n (p .length - skip) (drop skip (drop (p .start) s)) (omega arith), drop-drop)
 
 -- two parts, one behind the other
 parts-join : (s : List ℕ) (p : StrPtr) (a b n m x y z : ℕ) → b ≡ a + n → textOf s (partOf p a n x) ++ textOf s (partOf p b m y) ≡ textOf s (partOf p a (n + m) z)
-unfolding textOf partOf partAt
+unfolding textOf partOf
 parts-join s p a b n m x y z e =
     let q : p .start + b ≡ p .start + a + n = omega arith in
     rw (q, ← (drop-drop n (p .start + a) s)) (sym (take-add n m (drop (p .start + a) s)))
 
 -- the whole string as a part
 part-whole : (s : List ℕ) (p : StrPtr) (n z : ℕ) → n ≡ p .length → textOf s (partOf p 0 n z) ≡ textOf s p
-unfolding textOf partOf partAt
+unfolding textOf partOf
 part-whole s p n z e = rw (e, add-zero)
 
 -- ---- the parts of a match

@@ -2,7 +2,7 @@
 use Prim.Native.Nat.{ℕ}
 use mathlib.Core.Path.{_≡_, refl}
 use mathlib.Core.List.{List, [], _∷_}
-use Rattle.strlib.specs.Pointer.{pointer, partAt, partOf, storeFits, within, goodIn, textOf, texts, all, characters, readable}
+use Rattle.strlib.specs.Pointer.{pointer, partOf, storeFits, goodIn, textOf, texts, all, characters, readable}
 use Rattle.strlib.specs.Quoted.{bytes}
 use Rattle.strlib.specs.Refusal.{refused, gives, outcome, nowhere, at}
 use Rattle.strlib.specs.declared.StrPtr.{StrPtr}
@@ -27,5 +27,5 @@ pub record Pointers : Type 0 where
   pub not-good : searchRule store (pointer 0 10 13) listA 3 ≡ refused 1
 
 pub pointers : Pointers
-unfolding pointer partAt partOf storeFits within goodIn textOf texts all characters readable outcome searchRefusal sought partsOf splitOf given searchBy searchRule matchAfterRule beforeMatchRule
+unfolding pointer partOf storeFits goodIn textOf texts all characters readable outcome searchRefusal sought partsOf splitOf given searchBy searchRule matchAfterRule beforeMatchRule
 pointers = record { parts = refl; match-after = refl; before-match = refl; no-strings = refl; count-over = refl; not-good = refl }

@@ -9,7 +9,7 @@ use lib.ListN.{length}
 use borrow.Author.Needs.{needs}
 use borrow.Author.Tests.{leb-true}
 use Rattle.strlib.proofs.Refusing.{also-true, first-is, passed, outcome-no, outcome-yes}
-use Rattle.strlib.proofs.Pointing.{good-is}
+use Rattle.strlib.proofs.Pointing.{fits-is, good-is}
 use Rattle.strlib.specs.Pointer.{sized, partOf, storeFits, goodIn, textOf, readable}
 use Rattle.strlib.specs.Refusal.{refused, gives, also}
 use Rattle.strlib.specs.declared.StrPtr.{StrPtr}
@@ -162,11 +162,10 @@ module _ (s : List ℕ) (p : StrPtr) (c : Cut) (k : ℕ) (e : k ≡ cutRefusal s
   cut-gives r z h = outcome-yes k (cutRefusal s p c) e r (cutOf s p c) z h
 
   pub cut-ready : k ≡ 0 → Cuttable p c
-  unfolding storeFits
   cut-ready z =
       let ok : CutPassed s p c = cut-passed s p c (sym e ∙ z) in
       let g = good-is (length s) p (ok .good) in
-      let f = leb-true (length s) 65536 (ok .fits) in
+      let f = fits-is s (ok .fits) in
       record { room = g .0; end = omega arith; bounds = ok .bounds }
 
 pub ruleset cut-call-laws = (needs, cut-checked, cut-refused, cut-gives, cut-ready)

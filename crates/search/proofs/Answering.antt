@@ -1,5 +1,5 @@
 -- Laws of the answers: the checks made in turn give the refusal, and what was found gives the answer. Assumes nothing.
-use Prim.Native.Nat.{ℕ, zero, suc, _+_, _-_, _≤_}
+use Prim.Native.Nat.{ℕ, _+_, _-_, _≤_}
 use mathlib.Core.Path.{_≡_, refl, sym, ap, _∙_}
 use mathlib.Core.Bool.{true}
 use mathlib.Core.List.{List}
@@ -8,7 +8,7 @@ use lib.Dec.{leb}
 use lib.ListN.{length, take, drop, length-take, length-drop}
 use borrow.Author.Needs.{needs}
 use borrow.Author.Tests.{leb-true}
-use Rattle.strlib.proofs.Pointing.{good-is, text-length}
+use Rattle.strlib.proofs.Pointing.{fits-is, good-is, text-length}
 use Rattle.strlib.proofs.Refusing.{first-is, passed, outcome-no, outcome-yes, outcome-gave, outcome-refused}
 use Rattle.strlib.specs.Pointer.{partOf, storeFits, goodIn, textOf, texts, all, readable}
 use Rattle.strlib.specs.Refusal.{Outcome, refused, gives, also, outcome, Sought, nowhere, at}
@@ -23,6 +23,7 @@ use Rattle.search.specs.declared.find.Place.{Place}
 use Rattle.search.specs.declared.find.Finding.{Finding}
 use Rattle.search.specs.declared.find.Finding.the-variants.{Found as FoundAt, Nothing as FoundNothing, Refused as FoundRefused}
 use Rattle.search.proofs.Meaning.{search-law}
+use Rattle.search.proofs.Placing.{placed-some, placed-none}
 
 module _ (s : List ℕ) (host : StrPtr) (l : List StrPtr) (c : ℕ) where
   pub search-checked : (found₁ : ℕ) → found₁ ≡ also 0 3 (storeFits s) → (found₂ : ℕ) → found₂ ≡ also found₁ 3 (leb c 32)
@@ -66,16 +67,10 @@ module _ (s : List ℕ) (host : StrPtr) (l : List StrPtr) (c : ℕ) where
       given-as r q = outcome-yes k (searchRefusal s host l c) e r _ z (sym q ∙ f ∙ ap (plainSearch (texts s (take c l))) t)
 
       pub listed-nothing : j ≡ 0 → gives nothing ≡ outcome (searchRefusal s host l c) (sought s host (take c l))
-      unfolding placed
-      listed-nothing y = given-as nothing (rw y)
+      listed-nothing y = given-as nothing (placed-none j pos1 pos2 y)
 
       pub listed-found : (j ≡ 0 → ⊥) → gives (found j pos1 pos2) ≡ outcome (searchRefusal s host l c) (sought s host (take c l))
-      unfolding placed
-      listed-found y = given-as (found j pos1 pos2) (go j y)
-        where
-          go : (n : ℕ) → (n ≡ 0 → ⊥) → placed n pos1 pos2 ≡ found n pos1 pos2
-          go zero f = absurd (f refl)
-          go (suc n) f = refl
+      listed-found y = given-as (found j pos1 pos2) (placed-some j pos1 pos2 y)
 
 -- ---- the positions found lie in the host
 
@@ -112,14 +107,14 @@ split-is host j p front back e f = rw (e, f)
 
 module _ (s : List ℕ) (host : StrPtr) (l : List StrPtr) (c : ℕ) where
   pub within : (j pos1 pos2 : ℕ) → outcome (searchRefusal s host l c) (sought s host (take c l)) ≡ gives (found j pos1 pos2) → Within host pos1 pos2
-  unfolding sought storeFits
+  unfolding sought
   within j pos1 pos2 e =
       let g = outcome-gave (searchRefusal s host l c) (sought s host (take c l)) (found j pos1 pos2) e in
       let ok : SearchPassed s host l c = search-passed s host l c (g .0) in
       let b = found-bounds (texts s (take c l)) (textOf s host) j pos1 pos2 (g .1) in
       let n : length (textOf s host) ≡ host .length = text-length s host (ok .host-good) in
       let r = good-is (length s) host (ok .host-good) in
-      let m : length s ≤ 65536 = leb-true (length s) 65536 (ok .fits) in
+      let m : length s ≤ 65536 = fits-is s (ok .fits) in
       record { from = b .0; order = b .1 .0; to = omega arith; room = r .0; end = omega arith }
 
   module _ (r : Finding) (e : findingOf r ≡ outcome (searchRefusal s host l c) (sought s host (take c l))) where

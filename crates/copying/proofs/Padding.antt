@@ -9,11 +9,12 @@ use lib.ListN.{length, take, replicate, length-take, length-append, length-repli
 use mir.Syntax.{w64}
 use mir.Val.{Fits}
 use borrow.Author.Needs.{needs}
-use Rattle.strlib.specs.Pointer.{sized, goodIn}
+use borrow.Author.Tests.{leb-false}
+use Rattle.strlib.specs.Pointer.{sized, within, goodIn}
 use Rattle.strlib.specs.Refusal.{gives}
 use Rattle.strlib.specs.Store.{put}
 use Rattle.strlib.specs.declared.StrPtr.{StrPtr}
-use Rattle.strlib.proofs.Pointing.{good-is}
+use Rattle.strlib.proofs.Pointing.{within-so, good-is}
 use Rattle.strlib.proofs.Refusing.{ruled-yes}
 use Rattle.strlib.proofs.Storing.{put-length, put-put}
 use Rattle.moving.specs.Moving.{blanked}
@@ -43,12 +44,11 @@ gap-le false old n = omega arith
 
 -- ---- padding what was written
 
-module _ (s : List ℕ) (start n g : ℕ) where
-  pub pad-past : length s < n → s ≡ blanked s (start + n) g
-  pad-past h = sym (blanked-out s (start + n) g (omega arith))
+pub pad-fits : (s : List ℕ) (start n : ℕ) (b : Bool) → Fits w64 (length s) → b ≡ within (length s) start n → b ≡ true → Fits w64 (start + n)
+pad-fits s start n b h e f = omega (arith, within-so (length s) start n b e f)
 
-  pub pad-over : length s - n < start → s ≡ blanked s (start + n) g
-  pad-over h = sym (blanked-out s (start + n) g (omega arith))
+pub pad-over : (s : List ℕ) (start n g : ℕ) (b : Bool) → b ≡ within (length s) start n → b ≡ false → s ≡ blanked s (start + n) g
+pad-over s start n g b e f = sym (blanked-out s (start + n) g (omega (arith, leb-false (start + n) (length s) (sym e ∙ f))))
 
 module _ (s : List ℕ) (destination : StrPtr) (n : ℕ) (pad : Bool) (g : ℕ) (e : g ≡ gap pad (destination .length) n) where
   pub end-sum : Fits w64 n → Fits w64 (destination .length) → Fits w64 (n + g)
@@ -83,4 +83,4 @@ laid-fits n destination xs pad g =
     rw (length-append, length-replicate, length-take)
     (omega (arith, good-is n destination g, gap-le pad (destination .length) (min (destination .maximum) (length xs))))
 
-pub ruleset pad-laws = (needs, gap-some, gap-none, gap-off, pad-past, pad-over, end-sum, end-done)
+pub ruleset pad-laws = (needs, gap-some, gap-none, gap-off, pad-fits, pad-over, end-sum, end-done)

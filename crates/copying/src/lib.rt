@@ -36,11 +36,8 @@ fn gap_of(pad: bool, old: usize, n: usize) -> usize
 fn pad_behind(store: &mut [u8], start: usize, n: usize, g: usize)
     ensures { λ _. ⌜ now (store .exit) ≡ blanked (now (store .entry)) (start + n) g ⌝ }
 {
-    let size = store.len();
-    if n <= size {
-        if start <= size - n {
-            moving::fill_blanks(store, start + n, g)
-        }
+    if strlib::is_within(store.len(), start, n) {
+        moving::fill_blanks(store, start + n, g)
     }
 }
 

@@ -7,9 +7,10 @@ use native.Mathlib.Omega.{arith}
 use lib.ListN.{length}
 use borrow.Author.Needs.{needs}
 use borrow.Author.Tests.{lt-leb}
+use Rattle.strlib.proofs.Pointing.{within-so, is-within}
+use Rattle.strlib.specs.Pointer.{within}
 use Rattle.strlib.specs.Store.{put}
-use Rattle.moving.specs.Moving.{within, written}
-use Rattle.moving.proofs.Moving.{within-so, is-within}
+use Rattle.moving.specs.Moving.{written}
 
 module _ (s : List ℕ) (at n : ℕ) (ys : List ℕ) where
   -- within the store it is what `put` writes
@@ -17,7 +18,6 @@ module _ (s : List ℕ) (at n : ℕ) (ys : List ℕ) where
   written-in h = rw (is-within (length s) at n h)
 
   pub written-out : length s < at + n → written s at n ys ≡ s
-  unfolding within
   written-out h = rw (lt-leb (at + n) (length s) h)
 
   module _ (b : Bool) (e : b ≡ within (length s) at n) where

@@ -1,6 +1,6 @@
 -- Laws of refusals: the checks made one behind the other find the first that fails, and an answer follows from the number found.
 -- Assumes nothing.
-use mathlib.Core.Path.{_≡_, refl, sym, ap, _∙_}
+use mathlib.Core.Path.{_≡_, refl, ap, _∙_}
 use mathlib.Core.Bool.{Bool, true, false, cond, _&&_, false≢true}
 use mathlib.Core.List.{List, [], _∷_, _++_}
 use Prim.Native.Nat.{ℕ, zero, suc, _≤_, _<_, zero-le}
@@ -8,7 +8,7 @@ use native.Mathlib.Omega.{arith}
 use lib.Dec.{leb, ltb}
 use borrow.Author.Needs.{needs}
 use borrow.Author.Tests.{leb-true, ltb-true}
-use Rattle.strlib.specs.Refusal.{Outcome, refused, gives, first, also, outcome, after, ruled}
+use Rattle.strlib.specs.Refusal.{refused, gives, first, also, outcome, after, ruled}
 
 -- a case split that keeps the equation, usable inside a clause, so that its branches may make recursive calls
 pub bool-case : {P : Type 0} (b : Bool) → (b ≡ true → P) → (b ≡ false → P) → P
@@ -44,6 +44,10 @@ module _ (k n : ℕ) (ok : Bool) (z : k ≡ 0) where
   pub also-failed : ok ≡ false → n ≡ also k n ok
   unfolding also
   also-failed e = rw (z, e)
+
+-- a check whose test and whose number before it are known by other names
+pub also-after : (r k m n : ℕ) (t ok : Bool) → r ≡ also k n t → t ≡ ok → k ≡ m → r ≡ also m n ok
+also-after r k m n t ok e f g = e ∙ rw (f, g)
 
 -- the checks one behind the other, after those that found k
 abbrev pub inTurn : ℕ → List (ℕ × Bool) → ℕ
@@ -178,3 +182,5 @@ unfolding ruled after
 ruled-gave k x y new old e = let g = outcome-gave k x y e in (g .0, (g .1, rw (g .0)))
 
 pub ruleset check-laws = (needs, also-found, also-passed, also-failed)
+
+pub ruleset also-laws = (needs, also-found, also-after)

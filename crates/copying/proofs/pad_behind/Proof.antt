@@ -6,9 +6,9 @@ pub pad-behind-spec : {M : Type 1} → statement M
 pad-behind-spec =
     tie.close
     (tie.spec
-    (λ c. search pad-laws)
     (λ c κs. tt)
     (λ c. search pad-laws)
+    (λ c κs. tt)
     (λ c. search pad-laws)
     (λ c. search pad-laws)
     (λ c. search pad-laws))

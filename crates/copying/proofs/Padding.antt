@@ -50,14 +50,14 @@ pad-fits s start n b h e f = omega (arith, within-so (length s) start n b e f)
 pub pad-over : (s : List ℕ) (start n g : ℕ) (b : Bool) → b ≡ within (length s) start n → b ≡ false → s ≡ blanked s (start + n) g
 pad-over s start n g b e f = sym (blanked-out s (start + n) g (omega (arith, leb-false (start + n) (length s) (sym e ∙ f))))
 
-module _ (s : List ℕ) (destination : StrPtr) (n : ℕ) (pad : Bool) (g : ℕ) (e : g ≡ gap pad (destination .length) n) where
-  pub end-sum : Fits w64 n → Fits w64 (destination .length) → Fits w64 (n + g)
-  end-sum h k = omega (arith, gap-le pad (destination .length) n)
+pub end-sum : (pad : Bool) (old n g : ℕ) → g ≡ gap pad old n → Fits w64 n → Fits w64 old → Fits w64 (n + g)
+end-sum pad old n g e h k = omega (arith, gap-le pad old n)
 
-  pub end-done : (completed : Bool) (to : StrPtr) (t : List ℕ) → to ≡ sized destination (n + g) → t ≡ blanked s (destination .start + n) g
-      → (record { to = to; completed = completed }, t) ≡ finished s destination n pad completed
-  unfolding finished
-  end-done completed to t p q = rw (p, q, e)
+pub end-done : (s : List ℕ) (destination : StrPtr) (n : ℕ) (pad : Bool) (g : ℕ) → g ≡ gap pad (destination .length) n
+    → (completed : Bool) (to : StrPtr) (t : List ℕ) → to ≡ sized destination (n + g) → t ≡ blanked s (destination .start + n) g
+    → (record { to = to; completed = completed }, t) ≡ finished s destination n pad completed
+unfolding finished
+end-done s destination n pad g e completed to t p q = rw (p, q, e)
 
 -- the cut characters xs are written, and padded: the answer, and the store
 pub bounded : (k m : ℕ) (s : List ℕ) (destination : StrPtr) (xs : List ℕ) (pad completed : Bool) (n : ℕ) (r : Wrote) (t : List ℕ)

@@ -1,4 +1,5 @@
--- Laws of copy and append: where no check fails, both places lie in the store, so that the leaf moves what the rule says. Assumes nothing.
+-- Laws of copy and append: where no check fails, both places lie in the store, so that the leaf moves what the rule
+-- says. Assumes nothing.
 use mathlib.Core.Path.{_≡_, refl, sym, _∙_}
 use mathlib.Core.Bool.{Bool, true, false}
 use mathlib.Core.List.{List, [], _∷_, _++_, append-nil}

@@ -1,4 +1,5 @@
--- Every pointer that a call gives is good for the store: it is the destination with a length that keeps to its maximum. Assumes nothing.
+-- Every pointer that a call gives is good for the store: it is the destination with a length that keeps to its maximum.
+-- Assumes nothing.
 use mathlib.Core.Path.{_≡_}
 use mathlib.Core.Bool.{Bool, true, false}
 use mathlib.Core.List.{List, _++_}

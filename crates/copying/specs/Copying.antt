@@ -30,14 +30,14 @@ unfoldable pub wrote : StrPtr → List ℕ → Bool → Wrote
 wrote destination xs pad =
     record { to = sized destination (length (laid destination xs pad)); completed = leb (length xs) (destination .maximum) }
 
--- a bounded copy of the characters xs, where the checks found the number k: the answer, and the store, in which every byte past the new
--- length stays
+-- a bounded copy of the characters xs, where the checks found the number k: the answer, and the store, in which every
+-- byte past the new length stays
 unfoldable pub boundedCopy : ℕ → List ℕ → StrPtr → List ℕ → Bool → Outcome Wrote × List ℕ
 boundedCopy k s destination xs pad =
     ruled k (wrote destination xs pad) (put s (destination .start) (laid destination xs pad)) s
 
--- how a bounded copy ends that wrote n characters at the front of the destination's room: blanks fill the gap behind them, where it lies
--- in the store, and the new length counts them
+-- how a bounded copy ends that wrote n characters at the front of the destination's room: blanks fill the gap behind
+-- them, where it lies in the store, and the new length counts them
 unfoldable pub finished : List ℕ → StrPtr → ℕ → Bool → Bool → Wrote × List ℕ
 finished s destination n pad completed =
     let g : ℕ = gap pad (destination .length) n in

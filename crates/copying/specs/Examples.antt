@@ -1,8 +1,9 @@
--- Worked examples as one claim on the definitions: the manual's 3.2 and 5.2, then the cases that 01 settles. Assumes nothing.
+-- Worked examples as one claim on the definitions: the manual's 3.2 and 5.2, then the cases that 01 settles.
+-- Assumes nothing.
 use Prim.Native.Nat.{ℕ}
 use mathlib.Core.Path.{_≡_, refl}
 use mathlib.Core.Bool.{Bool, true, false}
-use mathlib.Core.List.{List, [], _∷_, _++_}
+use mathlib.Core.List.{List, _++_}
 use Rattle.strlib.specs.Pointer.{pointer, sized, storeFits, goodIn, textOf, characters, readable, apart, clear, all}
 use Rattle.strlib.specs.Quoted.{bytes}
 use Rattle.strlib.specs.Refusal.{Outcome, refused, gives, outcome, after, ruled}

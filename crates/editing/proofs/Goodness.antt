@@ -1,8 +1,9 @@
--- Every pointer that a call gives is good for the store: it is the given one with a length that keeps to its maximum. Assumes nothing.
+-- Every pointer that a call gives is good for the store: it is the given one with a length that keeps to its maximum.
+-- Assumes nothing.
 use mathlib.Core.Path.{_≡_, refl, sym}
 use mathlib.Core.Bool.{true}
 use mathlib.Core.List.{List}
-use Prim.Native.Nat.{ℕ, _≤_}
+use Prim.Native.Nat.{ℕ}
 use native.Mathlib.Omega.{arith}
 use lib.ListN.{length}
 use Rattle.strlib.specs.Pointer.{sized, goodIn, textOf}

@@ -1,5 +1,5 @@
--- Laws of replace: what stands behind string 2 moves first, then string 3 is put in front of it; the two writes are one `put` behind the
--- characters that stay. Assumes nothing.
+-- Laws of replace: what stands behind string 2 moves first, then string 3 is put in front of it; the two writes are one
+-- `put` behind the characters that stay. Assumes nothing.
 use mathlib.Core.Path.{_≡_, refl, sym, _∙_}
 use mathlib.Core.Bool.{Bool, true, false, and-false}
 use mathlib.Core.List.{List, _++_, append-assoc}

@@ -1,5 +1,5 @@
--- Laws of reverse, in place and from a source: characters put and then reversed where they stand are the reversed characters put.
--- Assumes nothing.
+-- Laws of reverse, in place and from a source: characters put and then reversed where they stand are the reversed
+-- characters put. Assumes nothing.
 use mathlib.Core.Path.{_≡_, refl, sym, _∙_}
 use mathlib.Core.Bool.{Bool, true}
 use mathlib.Core.List.{List, [], _∷_}

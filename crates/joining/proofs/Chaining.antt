@@ -1,5 +1,5 @@
--- The round rule of a chain of calls: each call's answer is the round of the definitions that starts at the same place, by induction on
--- the number of calls. Assumes nothing.
+-- The round rule of a chain of calls: each call's answer is the round of the definitions that starts at the same place,
+-- by induction on the number of calls. Assumes nothing.
 use mathlib.Core.Path.{_≡_, refl, sym, ap, _∙_}
 use mathlib.Core.Bool.{true}
 use mathlib.Core.List.{List}

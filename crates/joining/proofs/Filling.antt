@@ -1,6 +1,6 @@
--- Laws of the loop that fills the destination. Its state says what is left: the joined characters behind those written are those of the
--- strings from index i on, but for q characters. A turn moves the next of them, whose source no write has changed, and then either the
--- string is used up or the maximum is reached. Assumes nothing.
+-- Laws of the loop that fills the destination. Its state says what is left: the joined characters behind those written
+-- are those of the strings from index i on, but for q characters. A turn moves the next of them, whose source no write
+-- has changed, and then either the string is used up or the maximum is reached. Assumes nothing.
 use mathlib.Core.Path.{_≡_, refl, sym, ap, _∙_}
 use mathlib.Core.Bool.{true, false}
 use mathlib.Core.List.{List, [], _∷_, _++_}

@@ -1,5 +1,5 @@
--- Laws of resume places: a place and the number of joined characters before it are one to one, by induction on the strings.
--- Assumes nothing.
+-- Laws of resume places: a place and the number of joined characters before it are one to one, by induction on the
+-- strings. Assumes nothing.
 use mathlib.Core.Path.{_≡_, sym, _∙_}
 use mathlib.Core.Bool.{true, false, _&&_, and-false}
 use mathlib.Core.List.{List, [], _∷_, _++_}

@@ -1,5 +1,5 @@
--- The place rule and the round rule. A place is an offset, and each round adds m to it, up to T; so the pieces of n rounds are the first
--- n * m characters, and the rule is arithmetic on T / m. Assumes nothing.
+-- The place rule and the round rule. A place is an offset, and each round adds m to it, up to T; so the pieces of n
+-- rounds are the first n * m characters, and the rule is arithmetic on T / m. Assumes nothing.
 use mathlib.Core.Path.{_≡_, _∙_}
 use mathlib.Core.List.{List}
 use Prim.Native.Nat.{ℕ, zero, suc, _+_, _-_, _*_, _/_, _≤_, _<_, min}

@@ -1,6 +1,6 @@
--- Calling again on the store that the call before left: where the first call is not refused no later one is, since the listed strings
--- stay as they were and each place that a call gives is one that a call takes. So these calls are a chain, and the round rule holds of
--- them. Assumes nothing.
+-- Calling again on the store that the call before left: where the first call is not refused no later one is, since the
+-- listed strings stay as they were and each place that a call gives is one that a call takes. So these calls are a
+-- chain, and the round rule holds of them. Assumes nothing.
 use mathlib.Core.Path.{_≡_, refl, sym, _∙_}
 use mathlib.Core.Bool.{Bool, true, false}
 use mathlib.Core.List.{List}

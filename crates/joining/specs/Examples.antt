@@ -1,4 +1,5 @@
--- Worked examples as one claim on the definitions: the manual's 3.2 and 5.2, then the cases that 01 settles. Assumes nothing.
+-- Worked examples as one claim on the definitions: the manual's 3.2 and 5.2, then the cases that 01 settles.
+-- Assumes nothing.
 use Prim.Native.Nat.{ℕ}
 use mathlib.Core.Path.{_≡_, refl}
 use mathlib.Core.Bool.{Bool, true, false}
@@ -59,7 +60,8 @@ pub record Examples : Type 0 where
   pub none : joinRule (letters (bytes ".....")) (pointer 5 2 5) three 0 true ≡ (to (pointer 5 2 5) true, letters (bytes "  ..."))
   -- 4 goes before 5
   pub four-first : joinFromRule (letters (bytes ".....")) (pointer 0 0 5) three 3 (place 4 2) ≡ (refused 4, letters (bytes "....."))
-  -- the end of a string is carried on to a character that exists, with the maximum 0 too; behind the last string nothing is left
+  -- the end of a string is carried on to a character that exists, with the maximum 0 too; behind the last string
+  -- nothing is left
   pub carried : joinFromRule (letters (bytes ".....")) (pointer 5 0 3) three 3 (place 1 1) ≡ (round (pointer 5 3 3) false (place 3 1), letters (bytes "abc.."))
   pub nothing : joinFromRule (letters (bytes ".....")) (pointer 5 0 0) three 3 (place 1 4) ≡ (round (pointer 5 0 0) false (place 3 1), letters (bytes "....."))
   pub empty : joinFromRule (letters (bytes ".....")) (pointer 5 0 0) three 3 (place 4 1) ≡ (round (pointer 5 0 0) true (place 4 1), letters (bytes "....."))

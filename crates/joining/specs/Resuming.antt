@@ -36,7 +36,8 @@ before xss i q = length (joined (take i xss)) + q
 abbrev pub offset : List (List ℕ) → Place → ℕ
 offset xss from = before xss (from .string - 1) (from .character - 1)
 
--- the place of the character before which o stand, in strings numbered from k on; where there is none, the place behind the last string
+-- the place of the character before which o stand, in strings numbered from k on; where there is none, the place behind
+-- the last string
 unfoldable pub placeAt : ℕ → List (List ℕ) → ℕ → Place
 placeAt k [] o = record { string = k; character = 1 }
 placeAt k (x ∷ xss) o = cond (ltb o (length x)) (record { string = k; character = o + 1 }) (placeAt (k + 1) xss (o - length x))
@@ -61,7 +62,8 @@ roundOf xss destination o =
     let m : ℕ = destination .maximum in
     record { to = sized destination (length (piece xss m o)); completed = completes xss m o; next = nextPlace xss m o }
 
--- the answer and the store of a round over the strings ps, from behind the first q characters of the string of index i on
+-- the answer and the store of a round over the strings ps, from behind the first q characters of the string of index i
+-- on
 unfoldable pub resumed : List ℕ → StrPtr → List StrPtr → ℕ → ℕ → Round × List ℕ
 resumed s destination ps i q =
     let xss : List (List ℕ) = texts s ps in

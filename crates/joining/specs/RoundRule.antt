@@ -1,6 +1,6 @@
--- The place rule and the round rule of the checkpointed join: 01, "Copying", second paragraph. Proved as `place-rule` and `round-rule`
--- in proofs/Rounding, of chains of calls as `chain-rule` in proofs/Chaining, of one destination called again as `run-rule` in
--- proofs/Running. Assumes nothing.
+-- The place rule and the round rule of the checkpointed join: 01, "Copying", second paragraph. Proved as `place-rule`
+-- and `round-rule` in proofs/Rounding, of chains of calls as `chain-rule` in proofs/Chaining, of one destination called
+-- again as `run-rule` in proofs/Running. Assumes nothing.
 use Prim.Native.Nat.{ℕ, zero, suc, _+_, _-_, _/_, _≤_, _<_, max}
 use mathlib.Core.Path.{_≡_}
 use mathlib.Core.Bool.{true, false}
@@ -18,7 +18,8 @@ use Rattle.joining.specs.declared.Round.{Round}
 abbrev pub firstPlace : Place
 firstPlace = record { string = 1; character = 1 }
 
--- the place rule: the next place is (count + 1, 1) where the round completes, and on a character that exists where it does not
+-- the place rule: the next place is (count + 1, 1) where the round completes, and on a character that exists where it
+-- does not
 pub record PlaceRule (xss : List (List ℕ)) (m o : ℕ) : Type 0 where
   pub behind : completes xss m o ≡ true → nextPlace xss m o ≡ record { string = length xss + 1; character = 1 }
   pub inside : completes xss m o ≡ false
@@ -41,7 +42,8 @@ movedAfter xss m (suc n) = movedAfter xss m n ++ piece xss m (offset xss (placeA
 abbrev pub roundsFor : ℕ → ℕ → ℕ
 roundsFor t m = max 1 ((t + (m - 1)) / m)
 
--- T characters in all: no round before number max(1, ⌈T/m⌉) completes, that one does, and the pieces joined are the whole
+-- T characters in all: no round before number max(1, ⌈T/m⌉) completes, that one does, and the pieces joined are the
+-- whole
 pub record RoundRule (xss : List (List ℕ)) (m : ℕ) : Type 0 where
   pub early : (n : ℕ) → n + 1 < roundsFor (length (joined xss)) m → completes xss m (offset xss (placeAfter xss m n)) ≡ false
   pub done : (n : ℕ) → n + 1 ≡ roundsFor (length (joined xss)) m → completes xss m (offset xss (placeAfter xss m n)) ≡ true
@@ -54,7 +56,8 @@ abbrev pub placeOf : (ℕ → Round) → ℕ → Place
 placeOf rounds zero = firstPlace
 placeOf rounds (suc n) = rounds n .next
 
--- calls of which none is refused, each with its own store and a destination of maximum m, the listed characters staying the same
+-- calls of which none is refused, each with its own store and a destination of maximum m, the listed characters staying
+-- the same
 pub record Chain (stores : ℕ → List ℕ) (destinations : ℕ → StrPtr) (list : List StrPtr) (count m : ℕ) (rounds : ℕ → Round) : Type 0 where
   pub room : (n : ℕ) → destinations n .maximum ≡ m
   pub same : (n : ℕ) → texts (stores n) (take count list) ≡ texts (stores 0) (take count list)

@@ -63,7 +63,8 @@ fn round_at(
     }
 }
 
-// Moves the characters of a source from behind its first q, as many as fit behind the n that the destination holds: how many.
+// Moves the characters of a source from behind its first q, as many as fit behind the n that the destination holds: how
+// many.
 fn move_next(store: &mut [u8], destination: StrPtr, n: usize, source: StrPtr, q: usize) -> usize
     requires { ⌜ Next (length (now store)) destination n source q ⌝ }
     ensures { λ r. ⌜ (r, now (store .exit)) ≡ movedNext (now (store .entry)) destination n source q ⌝ }
@@ -75,7 +76,8 @@ fn move_next(store: &mut [u8], destination: StrPtr, n: usize, source: StrPtr, q:
 }
 
 // Fills the destination with the characters of the listed strings, cut at its maximum, from behind the first `skip`
-// characters of the string at index `first` on. One pass: each turn moves what is left of one string, or what still fits.
+// characters of the string at index `first` on. One pass: each turn moves what is left of one string, or what still
+// fits.
 fn fill(
     store: &mut [u8],
     destination: StrPtr,

@@ -1,5 +1,5 @@
--- Laws of reversal. The reversal of what is left is the reversal of the whole: a turn changes the outer two over, and what is left lies
--- between them. Assumes nothing.
+-- Laws of reversal. The reversal of what is left is the reversal of the whole: a turn changes the outer two over, and
+-- what is left lies between them. Assumes nothing.
 use mathlib.Core.Path.{_≡_, refl, sym, ap, _∙_}
 use mathlib.Core.List.{List, [], _∷_, _++_, append-assoc}
 use Prim.Native.Nat.{ℕ, suc, _+_, _-_, _≤_, _<_}

@@ -1,9 +1,9 @@
--- Laws of bytes written over a place of the same size, whatever they are: blanks, or those that stood there reversed. Assumes nothing.
+-- Laws of bytes written over a place of the same size, whatever they are: blanks, or those that stood there reversed.
+-- Assumes nothing.
 use mathlib.Core.Path.{_≡_, sym, _∙_}
 use mathlib.Core.Bool.{Bool, true, false}
 use mathlib.Core.List.{List}
 use Prim.Native.Nat.{ℕ, _+_, _≤_, _<_}
-use native.Mathlib.Omega.{arith}
 use lib.ListN.{length}
 use borrow.Author.Needs.{needs}
 use borrow.Author.Tests.{lt-leb}

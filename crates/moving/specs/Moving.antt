@@ -1,6 +1,6 @@
 -- What moving, blanks and reversal leave in a store: 01, "Copying". Outside the store nothing is written. Assumes nothing.
 use Prim.Native.Nat.{ℕ, _+_}
-use mathlib.Core.Bool.{Bool, cond, _&&_}
+use mathlib.Core.Bool.{cond, _&&_}
 use mathlib.Core.List.{List, [], _∷_, _++_}
 use lib.ListN.{length, take, drop, replicate}
 use Rattle.strlib.specs.Pointer.{within}

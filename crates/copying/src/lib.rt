@@ -42,6 +42,7 @@ fn pad_behind(store: &mut [u8], start: usize, n: usize, g: usize)
 }
 
 // Ends a bounded copy that wrote n characters at the front of the destination's room: pads them, and gives the answer.
+// It takes any numbers; blanks that would lie outside the store are not written.
 pub fn finish(store: &mut [u8], destination: StrPtr, n: usize, pad: bool, completed: bool) -> Wrote
     ensures { λ r. ⌜ (r, now (store .exit)) ≡ finished (now (store .entry)) destination n pad completed ⌝ }
 {

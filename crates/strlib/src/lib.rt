@@ -9,6 +9,7 @@ pub use checks::both;
 pub use checks::check;
 pub use checks::check_characters;
 pub use checks::check_good;
+pub use checks::check_into;
 pub use checks::check_readable;
 pub use checks::check_store;
 pub use lists::check_all_clear;

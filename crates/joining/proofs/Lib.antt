@@ -4,5 +4,6 @@ pub mod Filling
 pub mod Joining
 pub mod Rounding
 pub mod Chaining
+pub mod Answered
 pub mod Running
 pub mod Goodness

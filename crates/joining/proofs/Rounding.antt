@@ -11,7 +11,7 @@ use borrow.Author.Tests.{leb-true, leb-false, le-leb, lt-leb}
 use Rattle.strlib.proofs.Pointing.{either}
 use Rattle.joining.specs.Joining.{joined}
 use Rattle.joining.specs.Resuming.{before, offset, piece, completes, nextPlace}
-use Rattle.joining.specs.RoundRule.{placeAfter, movedAfter, roundsFor, RoundRule, PlaceRule}
+use Rattle.joining.specs.RoundRule.{placeAfter, movedAfter, roundsFor, RoundRule, RoundRules, PlaceRule}
 use Rattle.joining.proofs.Placing.{place-on, place-behind, place-offset}
 
 pub place-rule : (xss : List (List ℕ)) (m o : ℕ) → PlaceRule xss m o
@@ -56,9 +56,9 @@ module _ (xss : List (List ℕ)) (m : ℕ) where
   round-left : (n : ℕ) → length (drop (offset xss (placeAfter xss m n)) (joined xss)) ≡ T - n * m
   round-left n = rw (round-drop n, length-drop)
 
-  pub round-rule : 1 ≤ m → RoundRule xss m
+  rounded : 1 ≤ m → RoundRule xss m
   unfolding completes
-  round-rule h =
+  rounded h =
       let c : ℕ = (T + (m - 1)) / m in
       let lo : c * m ≤ T + (m - 1) = div-mul-le-self (T + (m - 1)) m in
       let hi : T + (m - 1) < c * m + m = lt-div-mul-add h in
@@ -79,3 +79,6 @@ module _ (xss : List (List ℕ)) (m : ℕ) where
 
       one : (n : ℕ) → n + 1 ≡ suc n
       one n = omega arith
+
+pub round-rule : RoundRules
+round-rule xss m h = rounded xss m h

@@ -15,14 +15,14 @@ use Rattle.strlib.specs.declared.StrPtr.{StrPtr}
 use Rattle.strlib.proofs.Pointing.{good-is}
 use Rattle.strlib.proofs.Storing.{put-length}
 use Rattle.joining.specs.Resuming.{placeIn, offset, piece, completes, nextPlace, roundOf, resumed, joinFromRefusal, joinFromRule}
-use Rattle.joining.specs.RoundRule.{firstPlace, placeAfter, placeOf, Chain, ChainRule, roundAfter, storeAfter}
+use Rattle.joining.specs.RoundRule.{firstPlace, placeAfter, placeOf, Chain, roundAfter, storeAfter, RunRule, RunRules}
 use Rattle.joining.specs.declared.Place.{Place}
 use Rattle.strlib.proofs.Texts.{texts-long, texts-readable}
 use Rattle.joining.proofs.Texts.{texts-at, texts-kept}
 use Rattle.joining.proofs.Placing.{is-place}
 use Rattle.joining.proofs.Joining.{FromPassed, from-passed}
 use Rattle.joining.proofs.Rounding.{place-rule}
-use Rattle.joining.proofs.Chaining.{chain-rule}
+use Rattle.joining.proofs.Chaining.{call-passed, chain-rule}
 
 module _ (s : List ℕ) (destination : StrPtr) (list : List StrPtr) (count : ℕ) (L : length list ≡ 32) (e : joinFromRefusal s destination list count firstPlace ≡ 0) where
   abbrev ps : List StrPtr
@@ -104,7 +104,10 @@ module _ (s : List ℕ) (destination : StrPtr) (list : List StrPtr) (count : ℕ
 
   run-chain : Chain (storeAfter s destination list count) (λ _. destination) list count m (roundAfter xss destination)
   unfolding storeAfter
-  run-chain = record { room = λ n. refl; same = λ n. kept n .1; call = λ n. rw (place-same n) (called n) }
+  run-chain = record { room = λ n u. refl; same = λ n u. kept n .1; call = λ n u. rw (place-same n) (called n) }
 
-  pub run-rule : 1 ≤ m → ChainRule (storeAfter s destination list count) (λ _. destination) list count m (roundAfter xss destination)
-  run-rule h = chain-rule (storeAfter s destination list count) (λ _. destination) list count m (roundAfter xss destination) run-chain h
+  run : 1 ≤ m → RunRule s destination list count
+  run h = record { given = called; rule = chain-rule (storeAfter s destination list count) (λ _. destination) list count m (roundAfter xss destination) h run-chain }
+
+pub run-rule : RunRules
+run-rule s destination list count r L h e = run s destination list count L (call-passed s destination list count firstPlace r e) h

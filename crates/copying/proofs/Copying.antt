@@ -3,7 +3,7 @@
 use mathlib.Core.Path.{_≡_, refl, sym, _∙_}
 use mathlib.Core.Bool.{Bool, true, false}
 use mathlib.Core.List.{List, [], _∷_, _++_, append-nil}
-use Prim.Native.Nat.{ℕ, _+_, _-_, _≤_, min}
+use Prim.Native.Nat.{ℕ, zero, suc, _+_, _-_, _≤_, min}
 use native.Mathlib.Omega.{arith}
 use lib.Dec.{leb}
 use lib.ListN.{length, take, drop, length-take, length-drop, length-append}
@@ -13,7 +13,7 @@ use mir.Val.{Fits}
 use borrow.Author.Needs.{needs}
 use Rattle.strlib.specs.Checks.{intoChecks, intoRefusal}
 use Rattle.strlib.specs.Pointer.{sized, textOf, clear}
-use Rattle.strlib.specs.Refusal.{refused, gives, also}
+use Rattle.strlib.specs.Refusal.{refused, gives, also, outcome, after, ruled}
 use Rattle.strlib.specs.Store.{put}
 use Rattle.strlib.specs.declared.StrPtr.{StrPtr}
 use Rattle.strlib.proofs.Pointing.{good-is, text-length, leb-same}
@@ -22,7 +22,7 @@ use Rattle.strlib.proofs.Refusing.{passed, ruled-no, ruled-yes}
 use Rattle.strlib.proofs.Storing.{take-min, take-append, put-kept}
 use Rattle.moving.specs.Moving.{moved}
 use Rattle.moving.proofs.Moving.{moved-in}
-use Rattle.copying.specs.Copying.{gap, laid, wrote, boundedCopy, finished, copyRefusal, copyRule, appendRule}
+use Rattle.copying.specs.Copying.{gap, laid, wrote, boundedCopy, finished, copyRefusal, copyRule, appendRule, PaddedAppend}
 use Rattle.copying.specs.declared.Wrote.{Wrote}
 use Rattle.copying.proofs.Padding.{bounded}
 
@@ -123,3 +123,22 @@ module _ (s : List ℕ) (destination source : StrPtr) (k : ℕ) (e : k ≡ copyR
 pub ruleset copy-laws = (needs, copy-checked, copy-refused, copy-done)
 
 pub ruleset append-laws = (needs, append-refused, append-sub, append-fits, append-sum, append-done)
+
+-- ---- a padded append
+
+same-laid : (destination : StrPtr) (xs : List ℕ) → destination .length ≤ destination .maximum → destination .length ≤ length xs
+    → laid destination xs true ≡ laid destination xs false
+unfolding laid gap
+same-laid destination xs h k =
+    let z : destination .length - length (take (destination .maximum) xs) ≡ 0 = rw length-take (omega arith) in rw z
+
+pub padded-append : PaddedAppend
+unfolding appendRule boundedCopy wrote ruled outcome after
+padded-append s destination source = go (copyRefusal s destination source) refl
+  where
+    go : (k : ℕ) → copyRefusal s destination source ≡ k
+        → boundedCopy k s destination (textOf s destination ++ textOf s source) true ≡ boundedCopy k s destination (textOf s destination ++ textOf s source) false
+    go zero e =
+        let g = copy-passed s destination source e .into .room in
+        rw (same-laid destination (textOf s destination ++ textOf s source) (good-is (length s) destination g .0) (rw length-append (omega (arith, text-length s destination g))))
+    go (suc k) e = refl

@@ -1,6 +1,7 @@
 -- Copy and append: 01, "Copying", first paragraph. Assumes nothing.
 use Prim.Native.Nat.{ℕ, _+_, _-_}
-use mathlib.Core.Bool.{Bool, false, cond}
+use mathlib.Core.Path.{_≡_}
+use mathlib.Core.Bool.{Bool, true, false, cond}
 use mathlib.Core.List.{List, [], _∷_, _++_}
 use lib.Dec.{leb}
 use lib.ListN.{length, take, replicate}
@@ -66,3 +67,9 @@ copyRule s destination source pad = boundedCopy (copyRefusal s destination sourc
 unfoldable pub appendRule : List ℕ → StrPtr → StrPtr → Outcome Wrote × List ℕ
 appendRule s destination source =
     boundedCopy (copyRefusal s destination source) s destination (textOf s destination ++ textOf s source) false
+
+-- a padded append would be an append: what is written is never shorter than the destination was
+abbrev pub PaddedAppend : Type 0
+PaddedAppend =
+    (s : List ℕ) (destination source : StrPtr)
+    → boundedCopy (copyRefusal s destination source) s destination (textOf s destination ++ textOf s source) true ≡ appendRule s destination source

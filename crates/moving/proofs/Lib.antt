@@ -2,3 +2,4 @@ pub mod Moving
 pub mod Blanking
 pub mod Turning
 pub mod Keeping
+pub mod Pasting

@@ -1,4 +1,4 @@
--- What moving, blanks and reversal leave in a store: 01, "Copying". Outside the store nothing is written. Assumes nothing.
+-- What moving, blanks, bytes and reversal leave in a store: 01, "Copying". Outside the store nothing is written. Assumes nothing.
 use Prim.Native.Nat.{ℕ, _+_}
 use mathlib.Core.Bool.{Bool, cond, _&&_}
 use mathlib.Core.List.{List, [], _∷_, _++_}
@@ -17,6 +17,10 @@ moved s from to n = cond (within (length s) from n && within (length s) to n) (p
 -- s with n blanks written from index at on
 unfoldable pub blanked : List ℕ → ℕ → ℕ → List ℕ
 blanked s at n = cond (within (length s) at n) (put s at (replicate n 32)) s
+
+-- s with bytes written from index at on
+unfoldable pub pasted : List ℕ → ℕ → List ℕ → List ℕ
+pasted s at xs = cond (within (length s) at (length xs)) (put s at xs) s
 
 -- characters from the last to the first
 unfoldable pub reversed : List ℕ → List ℕ

@@ -1,5 +1,6 @@
 // What writes bytes within a store. Every call takes any numbers; outside the store it writes nothing.
 mod blanks;
+mod bytes;
 mod moves;
 mod turns;
 
@@ -7,6 +8,7 @@ ghost use mathlib.Core.Path.{_≡_};
 ghost use Prim.Native.Nat.{min};
 ghost use Rattle.moving.specs.Moving.{within};
 pub use blanks::fill_blanks;
+pub use bytes::write_bytes;
 pub use moves::move_characters;
 pub use turns::reverse_in_place;
 

@@ -1,0 +1,10 @@
+pub mod Walking
+pub mod Limits
+pub mod Sizes
+pub mod Fronts
+pub mod Goodness
+pub mod Likeness
+pub mod Bytes
+pub mod Checking
+pub mod Seeking
+pub mod Building

@@ -6,10 +6,11 @@ use Prim.Native.Nat.{ℕ, _+_, _≤_, _<_}
 use native.Mathlib.Omega.{arith}
 use lib.ListN.{length, set, replicate, length-replicate, replicate-append-replicate}
 use borrow.Author.Needs.{needs}
+use Rattle.strlib.proofs.Pointing.{within-so, is-within}
+use Rattle.strlib.specs.Pointer.{within}
 use Rattle.strlib.specs.Store.{put}
 use Rattle.strlib.proofs.Storing.{put-none, put-more}
-use Rattle.moving.specs.Moving.{within, blanked}
-use Rattle.moving.proofs.Moving.{within-so, is-within}
+use Rattle.moving.specs.Moving.{blanked}
 
 -- i blanks written
 unfoldable pub blanks : List ℕ → ℕ → ℕ → List ℕ

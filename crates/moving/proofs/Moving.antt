@@ -7,37 +7,14 @@ use Prim.Native.Nat.{ℕ, suc, _+_, _-_, _≤_, _<_}
 use native.Mathlib.Nat.{sub-self, add-zero, sub-zero}
 use native.Mathlib.Numerals.{add-one}
 use native.Mathlib.Omega.{arith}
-use lib.Dec.{leb}
 use lib.ListN.{length, take, drop, getD, set, length-take, length-drop}
 use lib.Seq.{take-suc, drop-cons, getD-drop, getD-take}
 use borrow.Author.Needs.{needs}
-use borrow.Author.Tests.{leb-true, le-leb, lt-leb}
+use Rattle.strlib.specs.Pointer.{within}
 use Rattle.strlib.specs.Store.{put}
-use Rattle.strlib.proofs.Pointing.{leb-same}
+use Rattle.strlib.proofs.Pointing.{within-so, is-within}
 use Rattle.strlib.proofs.Storing.{put-none, put-more, put-front, drop-put, part-before}
-use Rattle.moving.specs.Moving.{within, moved}
-
--- ---- a place in the store
-
-module _ (size at n : ℕ) where
-  pub within-over : size < n → false ≡ within size at n
-  unfolding within
-  within-over h = sym (lt-leb (at + n) size (omega arith))
-
-  pub within-last : n ≤ size → leb at (size - n) ≡ within size at n
-  unfolding within
-  within-last h = leb-same at (size - n) (at + n) size (λ z. omega arith) (λ z. omega arith)
-
-  pub within-is : within size at n ≡ true → at + n ≤ size
-  unfolding within
-  within-is e = leb-true (at + n) size e
-
-  pub within-so : (b : Bool) → b ≡ within size at n → b ≡ true → at + n ≤ size
-  within-so b e f = within-is (sym e ∙ f)
-
-  pub is-within : at + n ≤ size → within size at n ≡ true
-  unfolding within
-  is-within h = le-leb (at + n) size h
+use Rattle.moving.specs.Moving.{moved}
 
 -- ---- the two loops
 
@@ -126,7 +103,5 @@ module _ (s : List ℕ) (from to n : ℕ) where
       moved-up e f h =
           let k : to + n ≤ length s = within-so (length s) to n b e f in
           p ∙ sym (moved-in (omega arith) k)
-
-pub ruleset within-laws = (needs, within-over, within-last)
 
 pub ruleset move-laws = (needs, down-none, down-more, down-end, up-none, up-more, up-end, within-so, moved-none-down, moved-none-up, moved-down, moved-up)

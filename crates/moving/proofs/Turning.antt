@@ -8,10 +8,11 @@ use native.Mathlib.Omega.{arith}
 use lib.ListN.{length, take, drop, getD, set, length-take, length-drop, length-append, length-set}
 use lib.Seq.{take-at, drop-at, set-at, split-at, drop-drop, getD-drop}
 use borrow.Author.Needs.{needs}
+use Rattle.strlib.proofs.Pointing.{within-so, is-within}
+use Rattle.strlib.specs.Pointer.{within}
 use Rattle.strlib.specs.Store.{put}
 use Rattle.strlib.proofs.Storing.{put-same, put-over, put-length, part-put}
-use Rattle.moving.specs.Moving.{within, reversed, reversedAt}
-use Rattle.moving.proofs.Moving.{within-so, is-within}
+use Rattle.moving.specs.Moving.{reversed, reversedAt}
 
 -- the m bytes from index a on reversed
 unfoldable pub turned : List ℕ → ℕ → ℕ → List ℕ

@@ -2,13 +2,9 @@
 use Prim.Native.Nat.{ℕ, _+_}
 use mathlib.Core.Bool.{Bool, cond, _&&_}
 use mathlib.Core.List.{List, [], _∷_, _++_}
-use lib.Dec.{leb}
 use lib.ListN.{length, take, drop, replicate}
+use Rattle.strlib.specs.Pointer.{within}
 use Rattle.strlib.specs.Store.{put}
-
--- the n bytes from index at on lie in a store of this size
-unfoldable pub within : ℕ → ℕ → ℕ → Bool
-within size at n = leb (at + n) size
 
 -- s with the n characters at `from`, as they are in s, written at `to`
 unfoldable pub moved : List ℕ → ℕ → ℕ → ℕ → List ℕ

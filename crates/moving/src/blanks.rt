@@ -20,7 +20,7 @@ fn write_blanks(store: &mut [u8], at: usize, n: usize)
 pub fn fill_blanks(store: &mut [u8], at: usize, n: usize)
     ensures { λ _. ⌜ now (store .exit) ≡ blanked (now (store .entry)) at n ⌝ }
 {
-    if super::is_within(store.len(), at, n) {
+    if strlib::is_within(store.len(), at, n) {
         write_blanks(store, at, n)
     }
 }

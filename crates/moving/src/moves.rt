@@ -34,11 +34,11 @@ pub fn move_characters(store: &mut [u8], from: usize, to: usize, n: usize)
     ensures { λ _. ⌜ now (store .exit) ≡ moved (now (store .entry)) from to n ⌝ }
 {
     if to <= from {
-        if super::is_within(store.len(), from, n) {
+        if strlib::is_within(store.len(), from, n) {
             move_down(store, from, to, n)
         }
     } else {
-        if super::is_within(store.len(), to, n) {
+        if strlib::is_within(store.len(), to, n) {
             move_up(store, from, to, n)
         }
     }

@@ -26,7 +26,7 @@ fn turn(store: &mut [u8], at: usize, n: usize)
 pub fn reverse_in_place(store: &mut [u8], at: usize, n: usize)
     ensures { λ _. ⌜ now (store .exit) ≡ reversedAt (now (store .entry)) at n ⌝ }
 {
-    if super::is_within(store.len(), at, n) {
+    if strlib::is_within(store.len(), at, n) {
         turn(store, at, n)
     }
 }

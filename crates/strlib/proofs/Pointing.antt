@@ -12,7 +12,8 @@ use lib.Seq.{drop-cons, take-all, take-nil}
 use borrow.Author.Needs.{needs}
 use borrow.Author.Tests.{leb-true, leb-false, le-leb, lt-leb}
 use Rattle.strlib.proofs.Refusing.{and-both}
-use Rattle.strlib.specs.Pointer.{pointer, storeFits, goodIn, sized, partOf, textOf, all, characters, apart}
+use Rattle.strlib.specs.Pointer.{pointer, storeFits, within, goodIn, sized, partAt, partOf, textOf, all, characters, readable, apart}
+use Rattle.strlib.specs.Refusal.{also}
 use Rattle.strlib.specs.declared.StrPtr.{StrPtr}
 
 -- two tests that hold together are equal
@@ -37,15 +38,33 @@ pub fits-is : (s : List ℕ) → storeFits s ≡ true → length s ≤ 65536
 unfolding storeFits
 fits-is s e = leb-true (length s) 65536 e
 
+-- ---- bytes within a store
+
+module _ (size a n : ℕ) where
+  pub within-over : size < n → false ≡ within size a n
+  within-over h = sym (lt-leb (a + n) size (omega arith))
+
+  pub within-last : n ≤ size → leb a (size - n) ≡ within size a n
+  within-last h = leb-same a (size - n) (a + n) size (λ z. omega arith) (λ z. omega arith)
+
+  pub within-is : within size a n ≡ true → a + n ≤ size
+  within-is e = leb-true (a + n) size e
+
+  pub within-so : (b : Bool) → b ≡ within size a n → b ≡ true → a + n ≤ size
+  within-so b e f = within-is (sym e ∙ f)
+
+  pub is-within : a + n ≤ size → within size a n ≡ true
+  is-within h = le-leb (a + n) size h
+
 -- ---- good pointers
 
 pub good-is : (n : ℕ) (p : StrPtr) → goodIn n p ≡ true → (p .length ≤ p .maximum) × (p .start + p .maximum ≤ n)
 unfolding goodIn
-good-is n p e = let b = and-both (leb (p .length) (p .maximum)) (leb (p .start + p .maximum) n) e in (leb-true _ _ (b .0), leb-true _ _ (b .1))
+good-is n p e = let b = and-both (leb (p .length) (p .maximum)) (within n (p .start) (p .maximum)) e in (leb-true _ _ (b .0), within-is _ _ _ (b .1))
 
 pub is-good : (n : ℕ) (p : StrPtr) → p .length ≤ p .maximum → p .start + p .maximum ≤ n → goodIn n p ≡ true
 unfolding goodIn
-is-good n p h k = rw (le-leb _ _ h, le-leb _ _ k)
+is-good n p h k = rw (le-leb _ _ h, is-within n (p .start) (p .maximum) k)
 
 -- the same room with another length
 pub good-sized : (n : ℕ) (p : StrPtr) (l : ℕ) → goodIn n p ≡ true → l ≤ p .maximum → goodIn n (sized p l) ≡ true
@@ -71,13 +90,9 @@ module _ (n : ℕ) (p : StrPtr) where
   unfolding goodIn
   good-short h = simp (lt-leb _ _ h)
 
-  pub good-over : n < p .maximum → false ≡ goodIn n p
+  pub good-rest : (b : Bool) → p .length ≤ p .maximum → b ≡ within n (p .start) (p .maximum) → b ≡ goodIn n p
   unfolding goodIn
-  good-over h = let k : n < p .start + p .maximum = omega arith in simp (lt-leb _ _ k, and-false)
-
-  pub good-last : p .length ≤ p .maximum → p .maximum ≤ n → leb (p .start) (n - p .maximum) ≡ goodIn n p
-  unfolding goodIn
-  good-last h k = simp (le-leb _ _ h) (leb-same (p .start) (n - p .maximum) (p .start + p .maximum) n (λ a. omega arith) (λ a. omega arith))
+  good-rest b h e = e ∙ sym (rw (le-leb _ _ h))
 
 -- ---- bytes that share nothing
 
@@ -137,7 +152,20 @@ module _ (s : List ℕ) (p : StrPtr) where
   unfolding textOf
   text-in = let e : p .start + p .length - p .start ≡ p .length = omega arith in rw e
 
-pub ruleset good-laws = (needs, good-short, good-over, good-last)
+-- the characters of a string, read
+pub readable-is : (s : List ℕ) (p : StrPtr) (t : List ℕ) (b : Bool) → b ≡ characters t → t ≡ textOf s p → b ≡ readable s p
+unfolding readable
+readable-is s p t b e f = e ∙ rw f
+
+pub also-readable : (s : List ℕ) (p : StrPtr) (t : List ℕ) (r k : ℕ) → r ≡ also k 2 (characters t) → t ≡ textOf s p → r ≡ also k 2 (readable s p)
+unfolding readable
+also-readable s p t r k e f = e ∙ rw f
+
+pub ruleset within-laws = (needs, within-over, within-last)
+
+pub ruleset good-laws = (needs, good-short, good-rest)
+
+pub ruleset readable-laws = (needs, readable-is, also-readable)
 
 pub ruleset apart-laws = (needs, apart-none-a, apart-behind, apart-none-b, apart-before)
 

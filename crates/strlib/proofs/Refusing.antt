@@ -45,6 +45,10 @@ module _ (k n : ℕ) (ok : Bool) (z : k ≡ 0) where
   unfolding also
   also-failed e = rw (z, e)
 
+-- a check whose test and whose number before it are known by other names
+pub also-after : (r k m n : ℕ) (t ok : Bool) → r ≡ also k n t → t ≡ ok → k ≡ m → r ≡ also m n ok
+also-after r k m n t ok e f g = e ∙ rw (f, g)
+
 -- the checks one behind the other, after those that found k
 abbrev pub inTurn : ℕ → List (ℕ × Bool) → ℕ
 inTurn k [] = k
@@ -178,3 +182,5 @@ unfolding ruled after
 ruled-gave k x y new old e = let g = outcome-gave k x y e in (g .0, (g .1, rw (g .0)))
 
 pub ruleset check-laws = (needs, also-found, also-passed, also-failed)
+
+pub ruleset also-laws = (needs, also-found, also-after)

@@ -6,24 +6,32 @@ use lib.Dec.{leb}
 use lib.ListN.{length, take, drop}
 use Rattle.strlib.specs.declared.StrPtr.{StrPtr}
 
--- every pointer of a rule is made by one of these three: from its numbers; in the same room with another length; and as the part of
--- a string that begins `skip` behind its start
+-- every pointer of a rule is made by one of these three: from its start, length and maximum; in the same room with another length; and
+-- as a part of a string, at a place of its own
 unfoldable pub pointer : ℕ → ℕ → ℕ → StrPtr
-pointer start length maximum = record { start = start; length = length; maximum = maximum }
+pointer a n m = record { start = a; length = n; maximum = m }
 
 unfoldable pub sized : StrPtr → ℕ → StrPtr
-sized p length = record { start = p .start; length = length; maximum = p .maximum }
+sized p n = record { start = p .start; length = n; maximum = p .maximum }
 
+abbrev pub partAt : StrPtr → ℕ → ℕ → ℕ → StrPtr
+partAt p a n m = record { start = a; length = n; maximum = m }
+
+-- the part that begins `skip` behind the string's start
 unfoldable pub partOf : StrPtr → ℕ → ℕ → ℕ → StrPtr
-partOf p skip length maximum = record { start = p .start + skip; length = length; maximum = maximum }
+partOf p skip n m = partAt p (p .start + skip) n m
 
 -- a store is at most 65,536 bytes
 unfoldable pub storeFits : List ℕ → Bool
 storeFits s = leb (length s) 65536
 
--- a pointer is good for a store of n bytes if length ≤ maximum and start + maximum ≤ n, a whole-number sum
+-- the n bytes from index a on lie in a store of this size, a whole-number sum
+abbrev pub within : ℕ → ℕ → ℕ → Bool
+within size a n = leb (a + n) size
+
+-- a pointer is good for a store of n bytes if length ≤ maximum and start + maximum ≤ n
 unfoldable pub goodIn : ℕ → StrPtr → Bool
-goodIn n p = leb (p .length) (p .maximum) && leb (p .start + p .maximum) n
+goodIn n p = leb (p .length) (p .maximum) && within n (p .start) (p .maximum)
 
 -- the bytes that a pointer names in a store: those from its start on, as many as its length says
 unfoldable pub textOf : List ℕ → StrPtr → List ℕ

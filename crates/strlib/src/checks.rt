@@ -4,7 +4,7 @@ use super::StrPtr;
 use super::strings;
 ghost use mathlib.Core.Bool.{_&&_};
 ghost use mathlib.Core.Path.{_≡_};
-ghost use Rattle.strlib.specs.Pointer.{storeFits, goodIn, readable};
+ghost use Rattle.strlib.specs.Pointer.{storeFits, goodIn, characters, readable};
 ghost use Rattle.strlib.specs.Refusal.{also};
 
 // Both tests as one, so that a range is one check.
@@ -36,11 +36,17 @@ pub fn check_good(found: u8, n: usize, p: StrPtr) -> u8
     check(found, 1, p.is_good(n))
 }
 
-pub fn check_readable(found: u8, store: &[u8], p: StrPtr) -> u8
-    ensures { λ r. ⌜ r ≡ also found 2 (readable (now (store .entry)) p) ⌝ }
+pub fn check_characters(found: u8, bytes: &[u8]) -> u8
+    ensures { λ r. ⌜ r ≡ also found 2 (characters (now (bytes .entry))) ⌝ }
 {
     if found != 0 {
         return found;
     }
-    check(found, 2, strings::is_readable(store, p))
+    check(found, 2, strings::are_characters(bytes))
+}
+
+pub fn check_readable(found: u8, store: &[u8], p: StrPtr) -> u8
+    ensures { λ r. ⌜ r ≡ also found 2 (readable (now (store .entry)) p) ⌝ }
+{
+    check_characters(found, strings::text(store, p))
 }

@@ -4,9 +4,10 @@ mod lists;
 mod strings;
 
 ghost use mathlib.Core.Path.{_≡_};
-ghost use Rattle.strlib.specs.Pointer.{goodIn, pointer, sized};
+ghost use Rattle.strlib.specs.Pointer.{goodIn, pointer, sized, partAt};
 pub use checks::both;
 pub use checks::check;
+pub use checks::check_characters;
 pub use checks::check_good;
 pub use checks::check_readable;
 pub use checks::check_store;
@@ -15,6 +16,7 @@ pub use lists::check_all_good;
 pub use lists::check_all_readable;
 pub use strings::are_characters;
 pub use strings::is_clear;
+pub use strings::is_within;
 pub use strings::text;
 
 // A string pointer of document 01: where a string starts in its store, its length, and the maximum that its room takes.
@@ -89,6 +91,13 @@ impl StrPtr {
         Self::new(self.start, length, self.maximum)
     }
 
+    // A part of the string, at a place of its own.
+    pub fn part(self, start: usize, length: usize, maximum: usize) -> Self
+        ensures { λ r. ⌜ r ≡ partAt self start length maximum ⌝ }
+    {
+        Self::new(start, length, maximum)
+    }
+
     // Whether the pointer is good for a store of n bytes.
     pub fn is_good(self, n: usize) -> bool
         ensures { λ r. ⌜ r ≡ goodIn n self ⌝ }
@@ -96,9 +105,6 @@ impl StrPtr {
         if self.maximum < self.length {
             return false;
         }
-        if n < self.maximum {
-            return false;
-        }
-        self.start <= n - self.maximum
+        strings::is_within(n, self.start, self.maximum)
     }
 }

@@ -2,7 +2,7 @@
 use super::StrPtr;
 ghost use mathlib.Core.Path.{_≡_};
 ghost use Prim.Native.Nat.{max};
-ghost use Rattle.strlib.specs.Pointer.{textOf, characters, readable, apart, clear};
+ghost use Rattle.strlib.specs.Pointer.{textOf, characters, readable, within, apart, clear};
 
 // Whether each byte is a character, 0 to 127. The greatest byte tells; a loop that never leaves early is compiled to take many bytes at a time.
 pub fn are_characters(bytes: &[u8]) -> bool
@@ -44,6 +44,16 @@ pub fn is_readable(store: &[u8], p: StrPtr) -> bool
     ensures { λ r. ⌜ r ≡ readable (now (store .entry)) p ⌝ }
 {
     are_characters(text(store, p))
+}
+
+// Whether the n bytes from `at` on lie in a store of this size.
+pub fn is_within(size: usize, at: usize, n: usize) -> bool
+    ensures { λ r. ⌜ r ≡ within size at n ⌝ }
+{
+    if size < n {
+        return false;
+    }
+    at <= size - n
 }
 
 // Whether m bytes from a and n bytes from b share none.

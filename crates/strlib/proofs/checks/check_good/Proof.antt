@@ -1,3 +1,4 @@
+use Rattle.strlib.proofs.Refusing.{also-laws}
 use Rattle.strlib.proofs.checks.check_good.Statement.{statement}
 use Rattle.strlib.proofs.checks.check_good.Tie as tie
 
@@ -7,4 +8,4 @@ check-good-spec =
     (tie.spec
     (λ c κs. tt)
     (λ c κs. tt)
-    (λ c. cc))
+    (λ c. search also-laws))

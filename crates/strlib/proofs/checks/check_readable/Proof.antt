@@ -1,4 +1,4 @@
-use Rattle.strlib.proofs.Refusing.{check-laws}
+use Rattle.strlib.proofs.Pointing.{readable-laws}
 use Rattle.strlib.proofs.checks.check_readable.Statement.{statement}
 use Rattle.strlib.proofs.checks.check_readable.Tie as tie
 
@@ -6,7 +6,6 @@ pub check-readable-spec : {M : Type 1} → statement M
 check-readable-spec =
     tie.close
     (tie.spec
-    (λ c. search check-laws)
     (λ c κs. tt)
     (λ c κs. tt)
-    (λ c. cc))
+    (λ c. search readable-laws))

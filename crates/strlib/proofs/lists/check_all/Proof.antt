@@ -1,4 +1,4 @@
-use Rattle.strlib.proofs.Refusing.{check-laws}
+use Rattle.strlib.proofs.Refusing.{also-laws}
 use Rattle.strlib.proofs.lists.check_all.Statement.{statement}
 use Rattle.strlib.proofs.lists.check_all.Tie as tie
 
@@ -6,7 +6,7 @@ pub check-all-spec : {M : Type 1} → statement M
 check-all-spec =
     tie.close
     (tie.spec
-    (λ c. search check-laws)
+    (λ c. search also-laws)
     (λ c κs. tt)
     (λ c κs. tt)
-    (λ c. cc))
+    (λ c. search also-laws))

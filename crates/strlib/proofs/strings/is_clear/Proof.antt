@@ -4,7 +4,7 @@ use Rattle.strlib.proofs.strings.is_clear.Tie as tie
 
 returns : tie.Need-returns
 unfolding clear
-returns c = cc
+returns c = c .is-apart .ensures
 
 pub is-clear-spec : {M : Type 1} → statement M
 is-clear-spec =

@@ -8,10 +8,11 @@ use native.Mathlib.Omega.{arith}
 use lib.ListN.{length, getD, set}
 use lib.Seq.{paste, paste-zero, paste-suc, take-all}
 use borrow.Author.Needs.{needs}
+use Rattle.strlib.proofs.Pointing.{within-so, is-within}
+use Rattle.strlib.specs.Pointer.{within}
 use Rattle.strlib.specs.Store.{put}
 use Rattle.strlib.proofs.Storing.{put-length}
-use Rattle.moving.specs.Moving.{within, pasted}
-use Rattle.moving.proofs.Moving.{within-so, is-within}
+use Rattle.moving.specs.Moving.{pasted}
 
 module _ (s xs : List ℕ) (at : ℕ) where
   pub paste-start : s ≡ paste s at xs 0

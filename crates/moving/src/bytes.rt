@@ -20,7 +20,7 @@ fn paste(store: &mut [u8], at: usize, bytes: &[u8])
 pub fn write_bytes(store: &mut [u8], at: usize, bytes: &[u8])
     ensures { λ _. ⌜ now (store .exit) ≡ pasted (now (store .entry)) at (now (bytes .entry)) ⌝ }
 {
-    if super::is_within(store.len(), at, bytes.len()) {
+    if strlib::is_within(store.len(), at, bytes.len()) {
         paste(store, at, bytes)
     }
 }

@@ -10,6 +10,8 @@ use lib.ListN.{length, getD, drop, replicate, drop-of-length-le, length-append, 
 use lib.Seq.{drop-cons}
 use borrow.Author.Needs.{needs}
 use borrow.Author.Tests.{leb-true, le-leb, lt-leb, eq-eqb, ne-eqb, eqb-true}
+use mir.Syntax.{w64}
+use mir.Val.{Fits}
 use Rattle.strlib.proofs.Refusing.{and-both}
 use Rattle.strlib.specs.Pointer.{all}
 use Rattle.records.specs.Record.{headSize, widthOf, sizeOf, limitOf, isKind, isNumber, isName, earlier, padded}
@@ -37,9 +39,9 @@ module _ (kind : ℕ) where
   unfolding sizeOf
   size-of w e = rw e
 
-  pub size-fits : (w : ℕ) → w ≡ widthOf kind → headSize + w ≤ 19
+  pub size-fits : (w : ℕ) → w ≡ widthOf kind → Fits w64 (headSize + w)
   unfolding widthOf
-  size-fits w e = omega arith
+  size-fits w e = record { fits = omega arith }
 
   pub kind-is : (m : ℕ) → m ≡ limitOf kind → leb 1 m ≡ isKind kind
   unfolding isKind

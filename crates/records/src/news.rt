@@ -29,8 +29,8 @@ pub fn write_record(buffer: &mut [u8], at: usize, kind: u8, number: usize, name:
 {
     let mut record = [b' '; SIZE_MAX];
     record[0] = kind;
-    record[1] = (number / 256) as u8;
-    record[2] = number as u8;
+    record[1] = (number / 256 % 256) as u8;
+    record[2] = (number % 256) as u8;
     let fitting = strlib::text(name, StrPtr::full(0, kinds::width_of(kind)));
     moving::write_bytes(&mut record, kinds::HEAD, fitting);
     moving::write_bytes(buffer, at, &record[..kinds::size_of(kind)]);

@@ -1,20 +1,11 @@
-use borrow.Author.Needs.{needs}
+use Rattle.records.proofs.Checking.{front-laws}
 use Rattle.records.proofs.front.byte_at.Statement.{statement}
 use Rattle.records.proofs.front.byte_at.Tie as tie
-use Rattle.records.proofs.front.byte_at.Reads as reads
-use Rattle.records.proofs.front.byte_at.Lts as lts
-
--- src/front.rt:12:26
-shared-slice-read-result : tie.Need-shared-slice-read-result
-shared-slice-read-result c = search needs
-
--- src/front.rt:9:1
-returns : tie.Need-returns
-returns c = search needs
-
--- src/front.rt:9:1
-returns-2 : tie.Need-returns-2
-returns-2 c = ?
 
 pub byte-at-spec : {M : Type 1} → statement M
-byte-at-spec = tie.close (tie.spec shared-slice-read-result returns returns-2)
+byte-at-spec =
+    tie.close
+    (tie.spec
+    (λ c. search front-laws)
+    (λ c. search front-laws)
+    (λ c. search front-laws))

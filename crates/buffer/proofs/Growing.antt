@@ -5,9 +5,9 @@ use Prim.Native.Nat.{ℕ, zero, suc, _+_, _-_, _≤_, _<_, min}
 use native.Mathlib.Omega.{arith}
 use borrow.Author.Needs.{needs}
 use lib.ListN.{length, take, drop, length-take, length-append}
-use lib.Seq.{take-all, take-at, take-nil}
+use lib.Seq.{take-all, take-nil}
 use Rattle.strlib.proofs.Pointing.{either}
-use Rattle.strlib.proofs.Storing.{put-none, put-length, put-put, take-append}
+use Rattle.strlib.proofs.Storing.{put-none, put-length, put-head, put-put, take-append}
 use Rattle.strlib.specs.Pointer.{pointer, textOf}
 use Rattle.strlib.specs.Store.{put}
 use Rattle.strlib.specs.declared.StrPtr.{StrPtr}
@@ -54,10 +54,6 @@ pub take-twice : (l : ℕ) (x u : List ℕ) → take l (take l x ++ u) ≡ take 
 take-twice zero x u = refl
 take-twice (suc l) [] u = refl
 take-twice (suc l) (a ∷ x) u = ap (λ (r : List ℕ). a ∷ r) (take-twice l x u)
-
-put-head : (b : List ℕ) (k : ℕ) (y : List ℕ) (m : ℕ) → length (take k b ++ y) ≡ m → take m (put b k y) ≡ take k b ++ y
-unfolding put
-put-head b k y m e = take-at (take k b ++ y) (drop (k + length y) b) m e
 
 module _ (b : List ℕ) (n : ℕ) (b′ : List ℕ) (r : ℕ) (t : List ℕ) (g : (r, b′) ≡ grown b n t) where
   pub grown-count : r ≡ min (n + length t) (length b)

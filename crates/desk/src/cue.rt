@@ -25,9 +25,9 @@ impl Cue {
     pub const LINE_MAX: usize = 80;
 
     // The largest matrix.
-    pub const MICROPHONES_MAX: usize = 64;
+    pub const MICROPHONES_MAX: usize = records::MICROPHONES_MAX;
 
-    pub const LOUDSPEAKERS_MAX: usize = 128;
+    pub const LOUDSPEAKERS_MAX: usize = records::LOUDSPEAKERS_MAX;
 
     // The range of a gain.
     pub const GAIN_MIN: i64 = -960;

@@ -1,17 +1,18 @@
 -- Laws of the record at the front of some bytes, and of the checks, made one behind the other. Assumes nothing.
 use mathlib.Core.Path.{_≡_, refl, sym, _∙_}
-use mathlib.Core.Bool.{Bool, cond, _&&_}
+use mathlib.Core.Bool.{Bool, true, _&&_}
 use mathlib.Core.List.{List, [], _∷_}
 use Prim.Native.Nat.{ℕ, _+_, _*_, _≤_}
 use lib.Dec.{leb, eqb}
 use lib.ListN.{length, getD, take, drop, List·getD-eq-default}
 use borrow.Author.Needs.{needs}
-use Rattle.strlib.proofs.Refusing.{inTurn, first-is, first-before, first-behind}
+use borrow.Author.Tests.{leb-true}
+use Rattle.strlib.proofs.Refusing.{inTurn, first-is, first-before, first-behind, passed}
 use Rattle.strlib.specs.Pointer.{pointer, textOf}
 use Rattle.strlib.specs.Refusal.{first, also}
 use Rattle.strlib.specs.declared.StrPtr.{StrPtr}
 use Rattle.records.specs.Record.{headSize, widthOf, sizeOf, limitOf, isKind, isNumber, isName, kindOf, numberOf, nameIn, isRecord, recordOf, records, isFresh}
-use Rattle.records.specs.Record.{bodyChecks, bodyRefusal, keyChecks, keyRefusal, formChecks, newRefusal}
+use Rattle.records.specs.Record.{bodyChecks, bodyRefusal, keyChecks, keyRefusal, formChecks, newChecks, newRefusal}
 
 -- ---- what stands at the front
 
@@ -78,3 +79,31 @@ module _ (l : List ℕ) (room kind number : ℕ) (name : List ℕ) (found₁ w f
       first-is behind refl found₅ (rw (e₅, e₄, e₃, f, g, s)) ∙ sym (first-behind (formChecks kind number name) behind refl (sym form ∙ z))
 
 pub ruleset new-laws = (needs, new-form, new-behind)
+
+-- ---- what a new record that is not refused has
+
+pub record Writable (l : List ℕ) (room kind number : ℕ) (name : List ℕ) : Type 0 where
+  pub kinds : isKind kind ≡ true
+  pub numbers : isNumber kind number ≡ true
+  pub short : length name ≤ widthOf kind
+  pub plain : isName name ≡ true
+  pub fresh : isFresh l kind number ≡ true
+  pub roomy : sizeOf kind ≤ room
+
+pub writable : (l : List ℕ) (room kind number : ℕ) (name : List ℕ) → newRefusal l room kind number name ≡ 0 → Writable l room kind number name
+unfolding newRefusal
+writable l room kind number name e =
+    let p = passed (newChecks l room kind number name) refl e in
+    record {
+      kinds = p .0;
+      numbers = p .1 .0;
+      short = leb-true (length name) (widthOf kind) (p .1 .1 .0);
+      plain = p .1 .1 .1 .0;
+      fresh = p .1 .1 .1 .1 .0;
+      roomy = leb-true (sizeOf kind) room (p .1 .1 .1 .1 .1 .0);
+    }
+
+-- its kind and number may be asked for
+pub key-good : (kind number : ℕ) → isKind kind ≡ true → isNumber kind number ≡ true → keyRefusal kind number ≡ 0
+unfolding keyRefusal
+key-good kind number e f = rw (e, f)

@@ -5,14 +5,15 @@ use mathlib.Core.List.{List, [], _∷_, _++_}
 use Prim.Native.Nat.{ℕ, zero, suc, _+_, _-_, _≤_, _<_}
 use native.Mathlib.Nat.{mul-zero}
 use native.Mathlib.Omega.{arith}
-use lib.ListN.{length, take, length-append, length-drop}
-use lib.Seq.{take-add, take-at, drop-at, take-append-le, drop-append-le}
+use lib.ListN.{length, take, drop, length-append, length-drop}
+use lib.Seq.{drop-drop, take-take, take-add, take-at, drop-at, take-append-le, drop-append-le}
+use Rattle.strlib.proofs.Pointing.{either}
 use Rattle.records.proofs.Fronts.{Passes, passes, refusal-front, recordBytes, bytes-length, bytes-refusal}
 use Rattle.records.proofs.Sizes.{size-is, size-least, records-reach, records-is, records-nil, place-zero, place-suc}
 use Rattle.records.proofs.Sizes.{place-begins}
-use Rattle.records.proofs.Limits.{earlier-none}
+use Rattle.records.proofs.Limits.{earlier-none, earlier-found, earlier-zero}
 use Rattle.records.proofs.Walking.{below-suc}
-use Rattle.records.specs.Record.{sizeOf, kindOf, placeOf, recordAt, records, behindRefusal, recordRefusal, earlier, faultIn, listRefusal}
+use Rattle.records.specs.Record.{headSize, widthOf, sizeOf, kindOf, nameIn, placeOf, recordAt, records, behindRefusal, recordRefusal, earlier, faultIn, listRefusal}
 
 -- ---- a list is good exactly where each of its records passes behind those before it
 
@@ -36,6 +37,15 @@ module _ (l : List ℕ) where
   pub each-good : ((k : ℕ) → k < records l → recordRefusal l k ≡ 0) → listRefusal l ≡ 0
   unfolding listRefusal
   each-good f = each-fault (records l) f
+
+  -- the first faulty record decides, whatever stands behind it
+  pub fault-first : (n k : ℕ) → k < n → faultIn l k ≡ 0 → (recordRefusal l k ≡ 0 → ⊥) → faultIn l n ≡ recordRefusal l k
+  unfolding faultIn
+  fault-first zero k h f e = absurd (omega arith)
+  fault-first (suc n) k h f e =
+      either (suc k) n
+      (λ (i : k < n). rw (fault-first n k i f e) (earlier-found (recordRefusal l k) (recordRefusal l n) e))
+      (λ (i : n < suc k). let z : n ≡ k = omega arith in rw z (earlier-zero (faultIn l k) (recordRefusal l k) f))
 
 -- ---- a record that passes has the first record's size, and lies in the list whole
 
@@ -70,6 +80,15 @@ module _ (l : List ℕ) (g : listRefusal l ≡ 0) where
       go : (n : ℕ) → records l ≡ n → length l ≡ placeOf l (records l)
       go zero e = rw e (omega (arith, place-zero l, rw e at (records-reach l)))
       go (suc n) e = omega (arith, records-reach l, rw (← e) at (record-room l n (good-each l g n (omega arith))))
+
+-- where a record that is counted lies, from its own length
+pub record-place : (l : List ℕ) (k : ℕ) → k < records l → length l - length (recordAt l k) ≡ placeOf l k
+record-place l k h = omega (arith, record-length l k, place-begins l k h)
+
+-- the front of a whole record's name, in the list
+pub name-text : (l : List ℕ) (k n : ℕ) → n ≤ widthOf (kindOf (recordAt l k)) → take n (drop (placeOf l k + headSize) l) ≡ take n (nameIn (recordAt l k))
+unfolding recordAt nameIn
+name-text l k n h = rw (← (drop-drop headSize (placeOf l k) l)) (sym (take-take n (widthOf (kindOf (recordAt l k))) (drop headSize (recordAt l k)) h))
 
 -- ---- a list with bytes behind it
 

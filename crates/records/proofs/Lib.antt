@@ -5,6 +5,8 @@ pub mod Fronts
 pub mod Goodness
 pub mod Likeness
 pub mod Bytes
+pub mod Reading
 pub mod Checking
 pub mod Seeking
 pub mod Building
+pub mod Adding

@@ -6,14 +6,16 @@ use Prim.Native.Nat.{ℕ, zero, suc, _+_, _-_, _≤_, _<_}
 use native.Mathlib.Numerals.{add-one}
 use native.Mathlib.Omega.{arith}
 use lib.Dec.{leb, eqb}
-use lib.ListN.{length, getD, drop, replicate, drop-of-length-le, length-append, length-replicate}
-use lib.Seq.{drop-cons}
+use lib.ListN.{length, getD, take, drop, replicate, drop-of-length-le, length-append, length-replicate}
+use lib.Seq.{drop-cons, take-append-le}
 use borrow.Author.Needs.{needs}
 use borrow.Author.Tests.{leb-true, le-leb, lt-leb, eq-eqb, ne-eqb, eqb-true}
 use mir.Syntax.{w64}
 use mir.Val.{Fits}
 use Rattle.strlib.proofs.Refusing.{and-both}
 use Rattle.strlib.specs.Pointer.{all}
+use Rattle.cutting.proofs.Bounding.{trimmed-le, trimmed-blanks}
+use Rattle.cutting.specs.Cutting.{trimmed}
 use Rattle.records.specs.Record.{headSize, widthOf, sizeOf, limitOf, isKind, isNumber, isName, earlier, padded}
 
 -- ---- kinds and numbers
@@ -99,6 +101,15 @@ padded-name w name e = name-pad name (w - length name) e
 pub padded-length : (w : ℕ) (name : List ℕ) → length name ≤ w → length (padded w name) ≡ w
 unfolding padded
 padded-length w name h = simp (length-append, length-replicate) (omega arith)
+
+pub padded-trimmed : (w : ℕ) (name : List ℕ) → trimmed (padded w name) ≡ trimmed name
+unfolding padded
+padded-trimmed w name = trimmed-blanks (w - length name) name
+
+-- the trimmed name stands at its front
+pub padded-text : (w : ℕ) (name : List ℕ) → take (trimmed name) (padded w name) ≡ take (trimmed name) name
+unfolding padded
+padded-text w name = take-append-le (trimmed name) name (replicate (w - length name) 32) (trimmed-le name)
 
 -- ---- one refusal behind another
 

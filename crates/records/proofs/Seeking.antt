@@ -34,25 +34,33 @@ module _ (l : List ℕ) (kind size : ℕ) (e : kind ≡ kindOf l) (f : size ≡ 
   unfolding records
   count-is = rw (f, e)
 
-  pub record-past : (k : ℕ) → length l / size < k → take (length l - length l) (drop (length l) l) ≡ recordAt l k
+  pub record-past : (k : ℕ) (x : List ℕ) → length l / size < k → x ≡ drop (length l) l → x ≡ recordAt l k
   unfolding recordAt
-  record-past k h =
+  record-past k x h g =
       let i : length l / 19 < k = rw size-here at h in
       let j : length l ≤ placeOf l k = rw (← (place k), size-here) (omega arith) in
-      rw (drop-of-length-le l {i = placeOf l k} j, drop-of-length-le l {i = length l} (omega arith)) (take-all (length l - length l) [] (omega arith))
+      g ∙ rw (drop-of-length-le l {i = placeOf l k} j, drop-of-length-le l {i = length l} (omega arith))
 
-  module _ (k : ℕ) (h : k ≤ length l / size) where
-    pub record-begins : size * k ≤ length l
-    record-begins = let i : k ≤ length l / 19 = rw size-here at h in rw size-here (omega arith)
+  module _ (k : ℕ) where
+    pub record-fits : k ≤ length l / size → length l * 1 < 2 ^ 63 → Fits w64 (size * k)
+    record-fits h g =
+        let i : k ≤ length l / 19 = rw size-here at h in
+        let j : 19 * k ≤ length l = omega arith in
+        record { fits = rw size-here (omega arith) }
 
-    pub record-fits : length l * 1 < 2 ^ 63 → Fits w64 (size * k)
-    record-fits g = record { fits = omega (arith, record-begins) }
-
-    pub record-is : take (length l - size * k) (drop (size * k) l) ≡ recordAt l k
+    pub record-is : (x : List ℕ) → x ≡ drop (size * k) l → x ≡ recordAt l k
     unfolding recordAt
-    record-is = rw (place k) (take-all (length l - placeOf l k) (drop (placeOf l k) l) (rw length-drop (omega arith)))
+    record-is x g = g ∙ rw (place k)
 
-pub ruleset list-laws = (needs, size-some, size-none, count-fits, count-is, record-past, record-begins, record-fits, record-is)
+-- what is behind the first bytes
+module _ (l : List ℕ) (at : ℕ) where
+  pub rest-none : length l < at → take (length l - length l) (drop (length l) l) ≡ drop at l
+  rest-none h = rw (drop-of-length-le l {i = at} (omega arith), drop-of-length-le l {i = length l} (omega arith)) (take-all (length l - length l) [] (omega arith))
+
+  pub rest-is : take (length l - at) (drop at l) ≡ drop at l
+  rest-is = take-all (length l - at) (drop at l) (rw length-drop (omega arith))
+
+pub ruleset list-laws = (needs, size-some, size-none, count-fits, count-is, rest-none, rest-is, record-past, record-fits, record-is)
 
 -- what is left has the same last
 module _ (l : List ℕ) (kind number n k : ℕ) (e : recordOf l kind number n ≡ recordOf l kind number k) where

@@ -16,5 +16,6 @@ pub use kinds::key_refusal;
 pub use kinds::size_of;
 pub use lists::find_record;
 pub use lists::record_at;
+pub use lists::rest_of;
 pub use news::new_refusal;
 pub use news::write_record;

@@ -2,6 +2,7 @@
 use super::front;
 use super::kinds;
 ghost use mathlib.Core.Path.{_≡_};
+ghost use lib.ListN.{drop};
 ghost use Rattle.records.specs.Record.{recordAt, records, recordOf};
 
 // How many records begin in a list.
@@ -12,15 +13,25 @@ fn count(list: &[u8]) -> usize
     (list.len() + (size - 1)) / size
 }
 
+// What is behind the first `at` bytes.
+pub fn rest_of(list: &[u8], at: usize) -> &[u8]
+    ensures { λ r. ⌜ now r ≡ drop at (now (list .entry)) ⌝ }
+{
+    if list.len() < at {
+        return &list[list.len()..];
+    }
+    &list[at..]
+}
+
 // Record k, counted from 0, with all that is behind it.
 pub fn record_at(list: &[u8], k: usize) -> &[u8]
     ensures { λ r. ⌜ now r ≡ recordAt (now (list .entry)) k ⌝ }
 {
     let size = kinds::size_of(front::kind_of(list));
     if list.len() / size < k {
-        return &list[list.len()..];
+        return rest_of(list, list.len());
     }
-    &list[size * k..]
+    rest_of(list, size * k)
 }
 
 // The record of this kind and number, counted from 1; 0 for none.

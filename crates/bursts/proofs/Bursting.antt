@@ -16,10 +16,11 @@ use Rattle.strlib.specs.Pointer.{characters}
 use Rattle.strlib.specs.Refusal.{Outcome, refused, gives, first, also, outcome}
 use Rattle.search.specs.Search.{Result, nothing, found}
 use Rattle.table.proofs.Resuming.{resumed-is}
-use Rattle.table.proofs.Running.{note-none as by-none, note-by}
+use Rattle.search.proofs.Placing.{placed-none, placed-some}
 use Rattle.table.specs.Run.{sizeOf, isSized, Walk, bad, rests, onlyIf, isRest}
 use Rattle.table.specs.Resume.{readOn, resumed}
-use Rattle.table.specs.Inner.{noteBy, restsOf, walkedOf, noteOf}
+use Rattle.search.specs.Inner.{placed}
+use Rattle.table.specs.Inner.{restsOf, walkedOf, noteOf}
 use Rattle.table.specs.declared.Progress.{Progress}
 use Rattle.table.specs.declared.Walked.{Walked}
 use Rattle.table.specs.declared.Walked.the-variants.{Rests, Bad}
@@ -79,24 +80,24 @@ pub ruleset carried-laws = (needs, sound-is, stopped-is, going-is, note-none, no
 -- ---- between what is carried and where a run rests
 
 module _ (c : Carried) where
-  pub rests-none : c .noted ≡ false → rests (c .state) (c .read) (noteBy 0 0 0) ≡ rests (c .state) (c .read) (carriedNote c)
-  rests-none e = rw e (ap (rests (c .state) (c .read)) (by-none 0 0 0 refl))
+  pub rests-none : c .noted ≡ false → rests (c .state) (c .read) (placed 0 0 0) ≡ rests (c .state) (c .read) (carriedNote c)
+  rests-none e = rw e (ap (rests (c .state) (c .read)) (placed-none 0 0 0 refl))
 
   pub rests-some : c .noted ≡ true → isNote (c .read) (carriedNote c) ≡ true
-      → rests (c .state) (c .read) (noteBy (c .string) (c .pos1) (c .pos2)) ≡ rests (c .state) (c .read) (carriedNote c)
+      → rests (c .state) (c .read) (placed (c .string) (c .pos1) (c .pos2)) ≡ rests (c .state) (c .read) (carriedNote c)
   unfolding isNote
   rests-some e k =
       let a : isNote (c .read) (found (c .string) (c .pos1) (c .pos2)) ≡ true = (rw e at k) in
       let b = and-both (leb 1 (c .string) && leb (c .string) 32) _ a in
       let j : 1 ≤ c .string = leb-true 1 (c .string) (and-both (leb 1 (c .string)) _ (b .0) .0) in
-      rw e (ap (rests (c .state) (c .read)) (note-by (c .string) (c .pos1) (c .pos2) (λ z. omega arith)))
+      rw e (ap (rests (c .state) (c .read)) (placed-some (c .string) (c .pos1) (c .pos2) (λ z. omega arith)))
 
 module _ (q n d j pos1 pos2 : ℕ) (stopped : Bool) where
-  pub carried-none : j ≡ 0 → carriedBy q n d nothing stopped ≡ carriedBy q n d (noteBy j pos1 pos2) stopped
-  carried-none e = ap (λ (r : Result). carriedBy q n d r stopped) (sym (by-none j pos1 pos2 e))
+  pub carried-none : j ≡ 0 → carriedBy q n d nothing stopped ≡ carriedBy q n d (placed j pos1 pos2) stopped
+  carried-none e = ap (λ (r : Result). carriedBy q n d r stopped) (sym (placed-none j pos1 pos2 e))
 
-  pub carried-some : (j ≡ 0 → ⊥) → carriedBy q n d (found j pos1 pos2) stopped ≡ carriedBy q n d (noteBy j pos1 pos2) stopped
-  carried-some h = ap (λ (r : Result). carriedBy q n d r stopped) (sym (note-by j pos1 pos2 h))
+  pub carried-some : (j ≡ 0 → ⊥) → carriedBy q n d (found j pos1 pos2) stopped ≡ carriedBy q n d (placed j pos1 pos2) stopped
+  carried-some h = ap (λ (r : Result). carriedBy q n d r stopped) (sym (placed-some j pos1 pos2 h))
 
 pub ruleset place-laws = (needs, rests-none, rests-some, carried-none, carried-some)
 

@@ -1,10 +1,9 @@
 // The run of a search table over a host that comes in bursts: 02, W5. What is carried goes by value, so that a refused burst leaves it as it was.
 mod carrying;
 
+use strlib::StrPtr;
 use table::Walked;
 ghost use mathlib.Core.Path.{_≡_};
-ghost use Rattle.strlib.specs.Pointer.{characters};
-ghost use Rattle.strlib.specs.Refusal.{also};
 ghost use Rattle.bursts.specs.Bursts.{fresh, burstAnswered, burstRule};
 ghost use Rattle.bursts.specs.Inner.{ownRefusal};
 
@@ -48,23 +47,18 @@ impl Carried {
     }
 }
 
-fn check_characters(found: u8, burst: &[u8]) -> u8
-    ensures { λ r. ⌜ r ≡ also found 2 (characters (now (burst .entry))) ⌝ }
-{
-    if found != 0 {
-        return found;
-    }
-    strlib::check(found, 2, strlib::are_characters(burst))
-}
-
 // What is refused without a look at the table.
 fn own_refusal(carried: Carried, burst: &[u8]) -> u8
     ensures { λ r. ⌜ r ≡ ownRefusal carried (now (burst .entry)) ⌝ }
 {
     let n = burst.len();
     let found = strlib::check(0, 3, n <= Carried::BURST_MAX);
-    let found = strlib::check(found, 3, table::fit_together(carried.total, n));
-    let found = check_characters(found, burst);
+    let found = strlib::check(
+        found,
+        3,
+        strlib::is_within(StrPtr::STORE_MAX, carried.total, n),
+    );
+    let found = strlib::check_characters(found, burst);
     strlib::check(found, 10, carrying::is_sound(carried))
 }
 

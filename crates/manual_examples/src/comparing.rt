@@ -1,10 +1,10 @@
 // 3.1 and 5.1, the comparative routines. A comparison is written as yes or no, the sign of the lengths, and the split.
-use super::saying::end_line;
-use super::saying::say;
-use super::saying::say_number;
-use super::saying::say_refused;
-use super::saying::say_yes;
 use compare::Compared;
+use saying::end_line;
+use saying::say;
+use saying::say_number;
+use saying::say_refused;
+use saying::say_yes;
 use strlib::StrPtr;
 
 const EQUAL: usize = 0;

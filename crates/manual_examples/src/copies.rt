@@ -1,13 +1,13 @@
 // 3.0, 3.2 and 5.2, the copying routines.
-use super::saying::end_line;
-use super::saying::say;
-use super::saying::say_number;
-use super::saying::say_refused;
-use super::saying::say_string;
-use super::saying::say_yes;
 use copying::CopyAnswer;
 use copying::Place;
 use copying::RoundAnswer;
+use saying::end_line;
+use saying::say;
+use saying::say_number;
+use saying::say_refused;
+use saying::say_string;
+use saying::say_yes;
 use strlib::StrList;
 use strlib::StrPtr;
 

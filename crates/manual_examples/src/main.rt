@@ -10,7 +10,6 @@
 mod comparing;
 mod copies;
 mod replacing;
-mod saying;
 mod substrings;
 
 fn main() {

@@ -1,10 +1,10 @@
 // 3.5, miscellaneous routines.
-use super::saying::given;
-use super::saying::say;
-use super::saying::say_number;
-use super::saying::show;
-use super::saying::show_answer;
 use super::substrings::counted;
+use saying::given;
+use saying::say;
+use saying::say_number;
+use saying::show;
+use saying::show_answer;
 use strlib::StrPtr;
 
 // The manual's calls of repstr, numbered from 1: the second is at 300, the third at 301, the fifth in the note.

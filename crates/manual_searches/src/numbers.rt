@@ -1,10 +1,10 @@
 // 5.5, conversions of numbers. cnvstr fills a converted number with blanks or zeros to the old length; here a number has the fewest digits.
-use super::saying::end_line;
-use super::saying::given;
-use super::saying::say;
-use super::saying::say_refused;
-use super::saying::show_answer;
 use number::NumberAnswer;
+use saying::end_line;
+use saying::given;
+use saying::say;
+use saying::say_refused;
+use saying::show_answer;
 use strlib::StrPtr;
 
 // A number, in base 10.

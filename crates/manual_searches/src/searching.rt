@@ -1,12 +1,12 @@
 // 3.4 and 5.3, the routines which search strings.
-use super::saying::between;
-use super::saying::end_line;
-use super::saying::relative;
-use super::saying::say;
-use super::saying::say_number;
-use super::saying::say_refused;
-use super::saying::say_string;
-use super::saying::show;
+use super::cuts::between;
+use super::cuts::relative;
+use saying::end_line;
+use saying::say;
+use saying::say_number;
+use saying::say_refused;
+use saying::say_string;
+use saying::show;
 use search::Match;
 use search::SearchAnswer;
 use search::SplitAnswer;

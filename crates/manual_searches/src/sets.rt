@@ -1,13 +1,13 @@
 // 5.4, character-searching. The strings put into tables are taken without a literal's padding: it would put blank into table 1 and take it
 // out of table 4, in which befchr is to find it.
-use super::saying::between;
-use super::saying::end_line;
-use super::saying::relative;
-use super::saying::say;
-use super::saying::say_number;
-use super::saying::show;
+use super::cuts::between;
+use super::cuts::relative;
 use charset::CharAnswer;
 use charset::CharAt;
+use saying::end_line;
+use saying::say;
+use saying::say_number;
+use saying::show;
 use strlib::StrPtr;
 
 // The character found, or position 0 and code 0, as fndchr has it.

@@ -3,3 +3,4 @@ pub mod Meaning
 pub mod Finding
 pub mod Answering
 pub mod Goodness
+pub mod Placing

@@ -1,7 +1,7 @@
 -- The levels of a table, filled string by string. Assumes nothing.
 use Prim.Native.Nat.{ℕ, suc, _+_, _-_, _*_, _≤_, _<_}
 use mathlib.Core.Path.{_≡_, refl, sym, _∙_}
-use mathlib.Core.Bool.{Bool, true, false}
+use mathlib.Core.Bool.{Bool, true, false, cond}
 use mathlib.Core.List.{List, [], _∷_}
 use native.Mathlib.Omega.{arith}
 use native.Mathlib.Numerals.{add-one}
@@ -12,7 +12,7 @@ use borrow.Author.Tests.{lt-ltb, le-ltb}
 use Rattle.strlib.proofs.Pointing.{either}
 use Rattle.states.specs.Node.{reach}
 use Rattle.states.specs.State.{total, before, stateOf, RowAt}
-use Rattle.states.specs.Fill.{choose, wordOrStop, Frame, Short, Stepped, levelOf, Levels, Kept}
+use Rattle.states.specs.Fill.{wordOrStop, Frame, Short, Stepped, levelOf, Levels, Kept}
 use Rattle.states.proofs.Reaching.{kindOf-cons}
 use Rattle.states.proofs.Numbering.{state-apart, state-le}
 use Rattle.states.proofs.Rowing.{same-or-not, step-word, row-stays, short-of}
@@ -32,7 +32,7 @@ level-old l j = rw (le-ltb j j (omega arith))
 level-le : (l j i : ℕ) → l ≤ levelOf l j i
 level-le l j i = go (ltb i j)
   where
-    go : (b : Bool) → l ≤ choose b (suc l) l
+    go : (b : Bool) → l ≤ cond b (suc l) l
     go true = omega arith
     go false = omega arith
 

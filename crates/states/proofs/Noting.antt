@@ -36,18 +36,21 @@ shut-length (s ∷ ss) w e l =
     (λ p q. true≢false (sym (prefix-same s w q (rw q at l)) ∙ p))
     (λ p q. shut-length ss w (rw (kindOf-cons, p, q) at e) (rw (q, length-further) at l))
 
+-- what holds of both numbers and of 0 holds of the one that is noted
+whole-holds : (P : ℕ → Type 0) → P 0 → (ss : List (List ℕ)) (i n r : ℕ) → P i → P r → P (whole ss i n r)
+whole-holds P z ss zero n r h h′ = h′
+whole-holds P z ss (suc k) n r h h′ = go (eqb (lengthOf ss (suc k)) n)
+  where
+    go : (b : Bool) → P (onlyWhere b (suc k))
+    go true = h
+    go false = z
+
 -- the noted string is no longer than the text
-where-length : (ss : List (List ℕ)) (b : Bool) (i n : ℕ) → lengthOf ss i ≤ n → lengthOf ss (onlyWhere b i) ≤ n
-where-length ss true i n h = h
-where-length ss false i n h = omega arith
-
-whole-length : (ss : List (List ℕ)) (i n r : ℕ) → lengthOf ss i ≤ n → lengthOf ss r ≤ n → lengthOf ss (whole ss i n r) ≤ n
-whole-length ss zero n r h h′ = h′
-whole-length ss (suc k) n r h h′ = where-length ss (eqb (lengthOf ss (suc k)) n) (suc k) n h
-
 pub note-length : (ss : List (List ℕ)) (w : List ℕ) → lengthOf ss (noteAt ss w) ≤ length w
-note-length ss [] = whole-length ss (closed ss []) zero zero (closed-length ss []) (omega arith)
-note-length ss (x ∷ w) = whole-length ss (closed ss (x ∷ w)) (suc (length w)) (noteAt ss w) (closed-length ss (x ∷ w)) (omega (arith, note-length ss w))
+note-length ss [] = whole-holds (λ i. lengthOf ss i ≤ 0) (omega arith) ss (closed ss []) zero zero (closed-length ss []) (omega arith)
+note-length ss (x ∷ w) =
+    whole-holds (λ i. lengthOf ss i ≤ suc (length w)) (omega arith) ss (closed ss (x ∷ w)) (suc (length w)) (noteAt ss w) (closed-length ss (x ∷ w))
+    (omega (arith, note-length ss w))
 
 -- what is noted depends on the node alone
 whole-shut : (ss : List (List ℕ)) (i n r : ℕ) → (k : ℕ) × (i ≡ suc k) → (lengthOf ss i ≡ n → ⊥) → whole ss i n r ≡ zero
@@ -133,14 +136,7 @@ note-closed ss [] e = rw e
 note-closed ss (x ∷ v) e = rw e
 
 -- what is noted is a listed string
-where-le : (b : Bool) (i m : ℕ) → i ≤ m → onlyWhere b i ≤ m
-where-le true i m h = h
-where-le false i m h = omega arith
-
-whole-count : (ss : List (List ℕ)) (i n r m : ℕ) → i ≤ m → r ≤ m → whole ss i n r ≤ m
-whole-count ss zero n r m h h′ = h′
-whole-count ss (suc k) n r m h h′ = where-le (eqb (lengthOf ss (suc k)) n) (suc k) m h
-
 pub note-count : (ss : List (List ℕ)) (v : List ℕ) → noteAt ss v ≤ length ss
-note-count ss [] = whole-count ss (closed ss []) zero zero (length ss) (closed-count ss []) (omega arith)
-note-count ss (x ∷ v) = whole-count ss (closed ss (x ∷ v)) (suc (length v)) (noteAt ss v) (length ss) (closed-count ss (x ∷ v)) (note-count ss v)
+note-count ss [] = whole-holds (λ i. i ≤ length ss) (omega arith) ss (closed ss []) zero zero (closed-count ss []) (omega arith)
+note-count ss (x ∷ v) =
+    whole-holds (λ i. i ≤ length ss) (omega arith) ss (closed ss (x ∷ v)) (suc (length v)) (noteAt ss v) (closed-count ss (x ∷ v)) (note-count ss v)

@@ -118,31 +118,27 @@ reach-step ss (x ∷ t) c =
     (λ p. rw (p, shut-longer ss (x ∷ t) (c ∷ []) p .0))
     (λ p. rw (p, dead-longer ss (x ∷ t) (c ∷ []) p) (reach-step ss t c))
 
+-- what holds of every live text and itself, and with a character more in front, holds of a text and the node that it reaches
+reach-holds : (ss : List (List ℕ)) (P : List ℕ → List ℕ → Type 0) → ((w : List ℕ) → kindOf ss w ≡ live → P w w)
+    → ((x : ℕ) (w v : List ℕ) → P w v → P (x ∷ w) v) → (w : List ℕ) {v : List ℕ} → reach ss w ≡ at v → P w v
+reach-holds ss P f g [] {v} e =
+    kind-case (kindOf ss [])
+    (λ p. let q : [] ≡ v = cc (rw p at e) in rw (← q) (f [] p))
+    (λ p. absurd (at≢stop (sym (rw p at e))))
+    (λ p. absurd (at≢stop (sym (rw p at e))))
+reach-holds ss P f g (x ∷ w) {v} e =
+    kind-case (kindOf ss (x ∷ w))
+    (λ p. let q : x ∷ w ≡ v = cc (rw p at e) in rw (← q) (f (x ∷ w) p))
+    (λ p. absurd (at≢stop (sym (rw p at e))))
+    (λ p. g x w v (reach-holds ss P f g w (rw p at e)))
+
 -- a node that is reached is live: it is a prefix of a listed string
 pub reach-live : (ss : List (List ℕ)) (w : List ℕ) {v : List ℕ} → reach ss w ≡ at v → kindOf ss v ≡ live
-reach-live ss [] {v} e =
-    kind-case (kindOf ss [])
-    (λ p. let q : [] ≡ v = cc (rw p at e) in rw (← q) p)
-    (λ p. absurd (at≢stop (sym (rw p at e))))
-    (λ p. absurd (at≢stop (sym (rw p at e))))
-reach-live ss (x ∷ w) {v} e =
-    kind-case (kindOf ss (x ∷ w))
-    (λ p. let q : x ∷ w ≡ v = cc (rw p at e) in rw (← q) p)
-    (λ p. absurd (at≢stop (sym (rw p at e))))
-    (λ p. reach-live ss w (rw p at e))
+reach-live ss w e = reach-holds ss (λ w v. kindOf ss v ≡ live) (λ w p. p) (λ x w v h. h) w e
 
 -- the text that matters is an end of the whole, and so no longer
 pub reach-length : (ss : List (List ℕ)) (w : List ℕ) {v : List ℕ} → reach ss w ≡ at v → length v ≤ length w
-reach-length ss [] {v} e =
-    kind-case (kindOf ss [])
-    (λ p. let q : [] ≡ v = cc (rw p at e) in rw (← q) (omega arith))
-    (λ p. absurd (at≢stop (sym (rw p at e))))
-    (λ p. absurd (at≢stop (sym (rw p at e))))
-reach-length ss (x ∷ w) {v} e =
-    kind-case (kindOf ss (x ∷ w))
-    (λ p. let q : x ∷ w ≡ v = cc (rw p at e) in rw (← q) (omega arith))
-    (λ p. absurd (at≢stop (sym (rw p at e))))
-    (λ p. omega (arith, reach-length ss w (rw p at e)))
+reach-length ss w e = reach-holds ss (λ w v. length v ≤ length w) (λ w p. omega arith) (λ x w v h. omega arith) w e
 
 -- what a stop means
 pub search-front : (ss : List (List ℕ)) (h : List ℕ) {k : ℕ} → closed ss h ≡ suc k → plainSearch ss h ≡ found (suc k) 1 (suc (lengthOf ss (suc k)))

@@ -1,7 +1,7 @@
 -- What each writer of words leaves, one word more at a time. Assumes nothing.
 use Prim.Native.Nat.{ℕ, zero, suc, _+_, _-_, _*_, _≤_, _<_}
 use mathlib.Core.Path.{_≡_, refl, sym, ap, _∙_}
-use mathlib.Core.Bool.{Bool, true, false, _&&_, false≢true}
+use mathlib.Core.Bool.{Bool, true, false, _&&_, false≢true, cond}
 use mathlib.Core.List.{List, [], _∷_, _++_}
 use native.Mathlib.Omega.{arith}
 use lib.Dec.{eqb, ltb}
@@ -14,7 +14,7 @@ use Rattle.search.proofs.Prefixes.{prefix-length}
 use Rattle.search.specs.Search.{isPrefix}
 use Rattle.table.specs.Run.{wordOf}
 use Rattle.states.specs.State.{before}
-use Rattle.states.specs.Fill.{choose, newNote, Frame, Wrote, Filled, Copied, Flat, Defaulted, Put, Children, NotePut, Rowed}
+use Rattle.states.specs.Fill.{newNote, Frame, Wrote, Filled, Copied, Flat, Defaulted, Put, Children, NotePut, Rowed}
 use Rattle.states.proofs.Prefixes.{not-prefix-longer, length-snoc}
 use Rattle.states.proofs.Numbering.{before-suc}
 use Rattle.states.proofs.Rowing.{same-or-not}
@@ -33,6 +33,10 @@ frame-set ws ws′ base n j v f a b =
 
 pub frame-wider : (ws ws′ : List ℕ) (base n m : ℕ) → Frame ws ws′ base n → n ≤ m → Frame ws ws′ base m
 frame-wider ws ws′ base n m f h = record { len = f .len; low = f .low; high = λ i l. f .high i (omega arith) }
+
+-- two writes in one frame
+pub frame-then : (ws ws₁ ws₂ : List ℕ) (base n : ℕ) → Frame ws ws₁ base n → Frame ws₁ ws₂ base n → Frame ws ws₂ base n
+frame-then ws ws₁ ws₂ base n f g = record { len = g .len ∙ f .len; low = λ i h. g .low i h ∙ f .low i h; high = λ i h. g .high i h ∙ f .high i h }
 
 -- words written from the front
 pub wrote-none : (ws : List ℕ) (base : ℕ) (f : ℕ → ℕ) → Wrote ws ws base 0 f
@@ -77,7 +81,7 @@ pub copied-end : (ws ws′ : List ℕ) (from q i : ℕ) → Copied ws ws′ from
 copied-end ws ws′ from q i w a b = let e : i ≡ 130 = omega arith in rw e at w
 
 -- two fills, one after the other
-flat : (ws ws₁ ws₂ : List ℕ) (base v : ℕ) → Wrote ws ws₁ base 128 (λ c. v) → Wrote ws₁ ws₂ (base + 128) 2 (λ c. 0) → Wrote ws ws₂ base 130 (λ c. choose (ltb c 128) v 0)
+flat : (ws ws₁ ws₂ : List ℕ) (base v : ℕ) → Wrote ws ws₁ base 128 (λ c. v) → Wrote ws₁ ws₂ (base + 128) 2 (λ c. 0) → Wrote ws ws₂ base 130 (λ c. cond (ltb c 128) v 0)
 flat ws ws₁ ws₂ base v a b =
     record {
       frame = record {
@@ -95,7 +99,7 @@ flat ws ws₁ ws₂ base v a b =
 pub flat-of : (ws ws₁ ws₂ : List ℕ) (q v : ℕ) → Filled ws ws₁ (1 + 130 * q) 128 v → Filled ws₁ ws₂ (1 + 130 * q + 128) 2 0 → Flat ws ws₂ q v
 flat-of ws ws₁ ws₂ q v f g = record { wrote = flat ws ws₁ ws₂ (1 + 130 * q) v (f .wrote) (g .wrote) }
 
-choose-same : (b : Bool) (n : ℕ) → choose b n n ≡ n
+choose-same : (b : Bool) (n : ℕ) → cond b n n ≡ n
 choose-same true n = refl
 choose-same false n = refl
 
@@ -160,11 +164,7 @@ module _ (ws : List ℕ) (base : ℕ) (u : List ℕ) (ss : List (List ℕ)) wher
       let y : v ≡ suc (before ss k + suc (length u)) = omega arith in
       record {
         wrote = record {
-          frame = record {
-            len = p .frame .len ∙ w .frame .len;
-            low = λ i h. p .frame .low i h ∙ w .frame .low i h;
-            high = λ i h. p .frame .high i h ∙ w .frame .high i h;
-          };
+          frame = frame-then ws ws₁ ws₂ base 128 (w .frame) (p .frame);
           here = λ c l. p .here c l ∙ rw (w .here c l, z, e, g, y, drop-cons ss k [] (omega arith), before-suc ss k (omega arith));
         };
       }
@@ -200,12 +200,12 @@ module _ (ws : List ℕ) (q cl n l : ℕ) where
   pub noted-whole : (a b : ℕ) → a ≡ cl → b ≡ l → (cl ≡ 0 → ⊥) → n ≡ l → 1 + 130 * q + 130 ≤ length ws → NotePut ws (set (set ws (1 + 130 * q + 128) a) (1 + 130 * q + 129) b) q cl n l
   noted-whole a b p r z e h = rw (p, r) (whole z e h)
 
-pub frame-then : (ws ws₁ ws₂ : List ℕ) (base n : ℕ) → Frame ws ws₁ base n → Frame ws₁ ws₂ base n → Frame ws ws₂ base n
-frame-then ws ws₁ ws₂ base n f g = record { len = g .len ∙ f .len; low = λ i h. g .low i h ∙ f .low i h; high = λ i h. g .high i h ∙ f .high i h }
-
 module _ (ss : List (List ℕ)) (ws ws₁ ws₂ : List ℕ) (q n : ℕ) (u : List ℕ) where
+  rowed-behind : Frame ws ws₁ (1 + 130 * q) 130 → Rowed ss ws₁ ws₂ q u → Rowed ss ws ws₂ q u
+  rowed-behind f r = record { row = r .row; frame = frame-then ws ws₁ ws₂ (1 + 130 * q) 130 f (r .frame) }
+
   pub rowed-default : Defaulted ws ws₁ q n → Rowed ss ws₁ ws₂ q u → Rowed ss ws ws₂ q u
-  rowed-default d r = record { row = r .row; frame = frame-then ws ws₁ ws₂ (1 + 130 * q) 130 (d .wrote .frame) (r .frame) }
+  rowed-default d r = rowed-behind (d .wrote .frame) r
 
   pub rowed-flat : Flat ws ws₁ q n → Rowed ss ws₁ ws₂ q u → Rowed ss ws ws₂ q u
-  rowed-flat d r = record { row = r .row; frame = frame-then ws ws₁ ws₂ (1 + 130 * q) 130 (d .wrote .frame) (r .frame) }
+  rowed-flat d r = rowed-behind (d .wrote .frame) r

@@ -2,7 +2,7 @@
 -- ws′ after a function was lent the words ws. Assumes nothing.
 use Prim.Native.Nat.{ℕ, zero, suc, _+_, _*_, _≤_, _<_}
 use mathlib.Core.Path.{_≡_}
-use mathlib.Core.Bool.{Bool, true, false}
+use mathlib.Core.Bool.{Bool, true, false, cond}
 use mathlib.Core.List.{List, [], _∷_, _++_}
 use lib.Dec.{eqb, ltb}
 use lib.ListN.{length, getD, take, drop}
@@ -11,16 +11,12 @@ use Rattle.table.specs.Run.{wordOf}
 use Rattle.states.specs.Node.{at, reach, noteAt}
 use Rattle.states.specs.State.{before, stateOf, IsNode, RowAt}
 
-abbrev pub choose : Bool → ℕ → ℕ → ℕ
-choose true a b = a
-choose false a b = b
-
 -- ---- what a row is made of
 
 -- the next state of u by c: that of the first of the strings that goes on past u with c, else d; `off` characters stand before the strings
 abbrev pub target : List (List ℕ) → ℕ → List ℕ → ℕ → ℕ → ℕ
 target [] off u c d = d
-target (s ∷ ss) off u c d = choose (isPrefix (u ++ (c ∷ [])) s) (suc (off + suc (length u))) (target ss (off + length s) u c d)
+target (s ∷ ss) off u c d = cond (isPrefix (u ++ (c ∷ [])) s) (suc (off + suc (length u))) (target ss (off + length s) u c d)
 
 -- the strings that count: those before the closing one, of n
 abbrev pub limit : ℕ → ℕ → ℕ
@@ -77,7 +73,7 @@ pub record Copied (ws ws′ : List ℕ) (from q n : ℕ) : Type 0 where
 
 -- every next state v, and no note
 pub record Flat (ws ws′ : List ℕ) (q v : ℕ) : Type 0 where
-  pub wrote : Wrote ws ws′ (1 + 130 * q) 130 (λ c. choose (ltb c 128) v 0)
+  pub wrote : Wrote ws ws′ (1 + 130 * q) 130 (λ c. cond (ltb c 128) v 0)
 
 -- the row of state `from`, that of a stop being all 0
 pub record Defaulted (ws ws′ : List ℕ) (q from : ℕ) : Type 0 where
@@ -85,7 +81,7 @@ pub record Defaulted (ws ws′ : List ℕ) (q from : ℕ) : Type 0 where
 
 -- v for the character with which x goes on past u, if it does
 pub record Put (ws ws′ : List ℕ) (base v : ℕ) (u x : List ℕ) : Type 0 where
-  pub wrote : Wrote ws ws′ base 128 (λ c. choose (isPrefix (u ++ (c ∷ [])) x) v (getD ws (base + c) 0))
+  pub wrote : Wrote ws ws′ base 128 (λ c. cond (isPrefix (u ++ (c ∷ [])) x) v (getD ws (base + c) 0))
 
 -- the strings from number k + 1 on that go on past u
 pub record Children (ws ws′ : List ℕ) (base : ℕ) (u : List ℕ) (ss : List (List ℕ)) (k : ℕ) : Type 0 where
@@ -123,7 +119,7 @@ pub record Stepped (ss : List (List ℕ)) (ws ws′ x : List ℕ) (l q r : ℕ) 
 
 -- how long the next text of string i is, where the first j strings are done with l characters
 abbrev pub levelOf : ℕ → ℕ → ℕ → ℕ
-levelOf l j i = choose (ltb i j) (suc l) l
+levelOf l j i = cond (ltb i j) (suc l) l
 
 -- the rows of all shorter texts stand, and fs holds for each string the state of the tail of its next text
 pub record Levels (ss : List (List ℕ)) (ws fs : List ℕ) (l j : ℕ) : Type 0 where

@@ -1,7 +1,7 @@
 -- Laws of one pointer: the tests of the code are those of the definitions. Assumes nothing.
 use mathlib.Core.Path.{_≡_, refl, sym, _∙_}
 use mathlib.Core.Bool.{Bool, true, false, _&&_, and-true, and-false, and-assoc}
-use mathlib.Core.List.{List, [], _∷_}
+use mathlib.Core.List.{List}
 use Prim.Native.Nat.{ℕ, suc, _+_, _-_, _≤_, _<_, min, max}
 use native.Mathlib.Nat.{sub-self}
 use native.Mathlib.Numerals.{add-one}
@@ -12,7 +12,7 @@ use lib.Seq.{drop-cons, take-all, take-nil}
 use borrow.Author.Needs.{needs}
 use borrow.Author.Tests.{leb-true, leb-false, le-leb, lt-leb}
 use Rattle.strlib.proofs.Refusing.{and-both}
-use Rattle.strlib.specs.Pointer.{pointer, storeFits, within, goodIn, sized, partAt, partOf, textOf, all, characters, readable, apart}
+use Rattle.strlib.specs.Pointer.{pointer, storeFits, within, goodIn, sized, partOf, textOf, all, characters, readable, apart}
 use Rattle.strlib.specs.Refusal.{also}
 use Rattle.strlib.specs.declared.StrPtr.{StrPtr}
 

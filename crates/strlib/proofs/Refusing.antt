@@ -1,6 +1,6 @@
 -- Laws of refusals: the checks made one behind the other find the first that fails, and an answer follows from the number found.
 -- Assumes nothing.
-use mathlib.Core.Path.{_≡_, refl, sym, ap, _∙_}
+use mathlib.Core.Path.{_≡_, refl, ap, _∙_}
 use mathlib.Core.Bool.{Bool, true, false, cond, _&&_, false≢true}
 use mathlib.Core.List.{List, [], _∷_, _++_}
 use Prim.Native.Nat.{ℕ, zero, suc, _≤_, _<_, zero-le}
@@ -8,7 +8,7 @@ use native.Mathlib.Omega.{arith}
 use lib.Dec.{leb, ltb}
 use borrow.Author.Needs.{needs}
 use borrow.Author.Tests.{leb-true, ltb-true}
-use Rattle.strlib.specs.Refusal.{Outcome, refused, gives, first, also, outcome, after, ruled}
+use Rattle.strlib.specs.Refusal.{refused, gives, first, also, outcome, after, ruled}
 
 -- a case split that keeps the equation, usable inside a clause, so that its branches may make recursive calls
 pub bool-case : {P : Type 0} (b : Bool) → (b ≡ true → P) → (b ≡ false → P) → P

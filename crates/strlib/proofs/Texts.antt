@@ -5,7 +5,7 @@ use mathlib.Core.List.{List, [], _∷_, _++_}
 use Prim.Native.Nat.{ℕ, zero, suc, _≤_, _<_}
 use native.Mathlib.Omega.{arith}
 use lib.Dec.{leb}
-use lib.ListN.{length, take, drop, getD}
+use lib.ListN.{length, take, drop, getD, length-map}
 use lib.Seq.{drop-nil}
 use borrow.Author.Tests.{leb-true}
 use Rattle.strlib.proofs.Listing.{all-at}
@@ -24,8 +24,7 @@ characters-append (x ∷ a) b = bool-case (leb x 127) (λ p. rw p (characters-ap
 
 pub texts-long : (s : List ℕ) (ps : List StrPtr) → length (texts s ps) ≡ length ps
 unfolding texts
-texts-long s [] = refl
-texts-long s (p ∷ ps) = ap suc (texts-long s ps)
+texts-long s ps = length-map ps (textOf s)
 
 pub texts-take : (s : List ℕ) (ps : List StrPtr) (k : ℕ) → take k (texts s ps) ≡ texts s (take k ps)
 unfolding texts

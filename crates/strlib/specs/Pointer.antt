@@ -1,7 +1,7 @@
 -- String pointers and what they name in a store: 01, "What the library covers". Assumes nothing.
 use Prim.Native.Nat.{ℕ, _+_, min, max}
 use mathlib.Core.Bool.{Bool, true, _&&_}
-use mathlib.Core.List.{List, [], _∷_}
+use mathlib.Core.List.{List, [], _∷_, map}
 use lib.Dec.{leb}
 use lib.ListN.{length, take, drop}
 use Rattle.strlib.specs.declared.StrPtr.{StrPtr}
@@ -39,8 +39,7 @@ textOf s p = take (p .length) (drop (p .start) s)
 
 -- the characters of listed strings, string by string
 unfoldable pub texts : List ℕ → List StrPtr → List (List ℕ)
-texts s [] = []
-texts s (p ∷ ps) = textOf s p ∷ texts s ps
+texts s ps = map (textOf s) ps
 
 -- f holds of each element
 unfoldable pub all : {A : Type 0} → (A → Bool) → List A → Bool

@@ -2,13 +2,13 @@
 use mathlib.Core.Path.{_≡_, sym, _∙_}
 use mathlib.Core.Bool.{Bool, true, false, _&&_, and-true}
 use mathlib.Core.List.{List}
-use Prim.Native.Nat.{ℕ, _+_, _-_, _≤_, _<_}
+use Prim.Native.Nat.{ℕ, _+_, _≤_, _<_}
 use native.Mathlib.Omega.{arith}
 use lib.Dec.{leb, ltb}
 use lib.ListN.{length}
 use borrow.Author.Needs.{needs}
-use borrow.Author.Tests.{leb-true, ltb-true, le-leb, lt-leb}
-use Rattle.strlib.proofs.Pointing.{leb-same}
+use borrow.Author.Tests.{ltb-true}
+use Rattle.strlib.proofs.Pointing.{within-is, is-within}
 use Rattle.strlib.proofs.Refusing.{and-both}
 use Rattle.strlib.specs.Pointer.{characters}
 use Rattle.search.specs.Search.{Result}
@@ -16,16 +16,6 @@ use Rattle.table.specs.Run.{sizeOf, isSized, Walk, bad, onlyIf, enter, w
 use Rattle.table.specs.Resume.{canResume, readOn, resumed}
 use Rattle.table.specs.Inner.{Entered}
 use Rattle.table.proofs.Running.{sized-is}
-
--- ---- a sum that is not made where it could be too great
-
-pub together-over : (n m : ℕ) → 65536 < m → false ≡ leb (n + m) 65536
-together-over n m h = let k : 65536 < n + m = omega arith in sym (lt-leb (n + m) 65536 k)
-
-pub together-fit : (n m : ℕ) → m ≤ 65536 → leb n (65536 - m) ≡ leb (n + m) 65536
-together-fit n m h = leb-same n (65536 - m) (n + m) 65536 (λ x. omega arith) (λ x. omega arith)
-
-pub ruleset together-laws = (needs, together-over, together-fit)
 
 -- ---- where a run may go on
 
@@ -41,7 +31,7 @@ can-resume ws h q n e =
     let a = and-both (isSized ws) _ e in
     let b = and-both (ltb q (sizeOf ws)) _ (a .1) in
     let d = and-both (characters h) _ (b .1) in
-    record { sized = a .0; state = ltb-true _ _ (b .0); plain = d .0; near = leb-true _ _ (d .1) }
+    record { sized = a .0; state = ltb-true _ _ (b .0); plain = d .0; near = within-is _ _ _ (d .1) }
 
 pub resume-can : (ws h : List ℕ) (q n : ℕ) (plain : Bool) → plain ≡ characters h → (near : Bool) → near ≡ leb (n + length h) 65536
     → (readable : Bool) → readable ≡ (plain && near) → (sized : Bool) → sized ≡ isSized ws → (size : ℕ) → size ≡ sizeOf ws
@@ -53,7 +43,7 @@ resume-can ws h q n plain e near f readable g sized a size b on d r x = x ∙ rw
 pub resumed-is : (ws h : List ℕ) (q n : ℕ) (r : Result) → characters h ≡ true → n + length h ≤ 65536
     → resumed ws h q n r ≡ onlyIf (isSized ws && ltb q (sizeOf ws)) (readOn ws h q n r)
 unfolding resumed canResume
-resumed-is ws h q n r plain near = rw (plain, le-leb (n + length h) 65536 near, and-true)
+resumed-is ws h q n r plain near = rw (plain, is-within 65536 n (length h) near, and-true)
 
 module _ (ws h : List ℕ) (q n : ℕ) (b : Bool) (e : b ≡ canResume ws h q n) where
   pub resume-not : b ≡ false → (r : Result) → bad ≡ resumed ws h q n r

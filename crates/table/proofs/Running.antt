@@ -1,6 +1,6 @@
 -- Laws of the run's code: each return is a clause of the rule. Assumes nothing.
 use mathlib.Core.Path.{_≡_, refl, sym, ap, _∙_}
-use mathlib.Core.Bool.{Bool, true, false, and-false}
+use mathlib.Core.Bool.{true, false, and-false}
 use mathlib.Core.List.{List, [], _∷_}
 use Prim.Native.Nat.{ℕ, zero, suc, _+_, _-_, _*_, _≤_, _<_}
 use native.Mathlib.Numerals.{add-one}
@@ -15,9 +15,11 @@ use Rattle.strlib.specs.Pointer.{storeFits, goodIn, textOf, characters, readabl
 use Rattle.strlib.proofs.Texts.{character-at}
 use Rattle.strlib.specs.Refusal.{Outcome, refused, gives, first, also, outcome}
 use Rattle.strlib.specs.declared.StrPtr.{StrPtr}
+use Rattle.search.proofs.Placing.{placed-some, placed-none}
+use Rattle.search.specs.Inner.{placed}
 use Rattle.search.specs.Search.{Result, nothing, found}
-use Rattle.table.specs.Run.{sizeOf, wordOf, isSized, Walk, bad, rests, onlyIf, noted, enter, step, walk, runOver, isRest, ranOf, runChecks, runRefusal, runRule}
-use Rattle.table.specs.Inner.{noteBy, noteOf, restsOf, walkedOf, Entered, beforeChecks, beforeRun, ended}
+use Rattle.table.specs.Run.{sizeOf, wordOf, isSized, Walk, bad, rests, onlyIf, noted, enter, step, walk, runOver, isRest, ranOf, beforeChecks, metChecks, runChecks, runRefusal, runRule}
+use Rattle.table.specs.Inner.{noteOf, restsOf, walkedOf, Entered, beforeRun, ended}
 use Rattle.table.specs.declared.Progress.{Progress}
 use Rattle.table.specs.declared.Walked.{Walked}
 use Rattle.table.specs.declared.Walked.the-variants.{Rests, Bad}
@@ -26,15 +28,6 @@ use Rattle.table.proofs.Walking.{enter-pos, step-pos, walk-bad, walk-st
 positive : (q : ℕ) → (q ≡ 0 → ⊥) → 0 < q
 positive zero y = absurd (y refl)
 positive (suc q) y = omega arith
-
-pub note-by : (g a b : ℕ) → (g ≡ 0 → ⊥) → noteBy g a b ≡ found g a b
-unfolding noteBy
-note-by zero a b y = absurd (y refl)
-note-by (suc g) a b y = refl
-
-pub note-none : (g a b : ℕ) → g ≡ 0 → noteBy g a b ≡ nothing
-unfolding noteBy
-note-none g a b e = rw e
 
 -- ---- state q is entered with n characters read and the note r; g and k are what was read of its words
 
@@ -65,8 +58,8 @@ module _ (ws : List ℕ) (q n : ℕ) (r : Result) where
           go zero y b = absurd (y refl)
           go (suc x) y b = rw (le-leb (suc x) 32 b, lt-leb k n h)
 
-      pub enter-good : k ≤ n → rests q n (noteBy g (n - k + 1) (n + 1)) ≡ enter ws q n r
-      enter-good h = ap (rests q n) (note-by g (n - k + 1) (n + 1) z) ∙ go g z s ∙ ap (λ (l : ℕ). noted q g l n r) d ∙ sym entered
+      pub enter-good : k ≤ n → rests q n (placed g (n - k + 1) (n + 1)) ≡ enter ws q n r
+      enter-good h = ap (rests q n) (placed-some g (n - k + 1) (n + 1) z) ∙ go g z s ∙ ap (λ (l : ℕ). noted q g l n r) d ∙ sym entered
         where
           go : (x : ℕ) → (x ≡ 0 → ⊥) → x ≤ 32 → rests q n (found x (n - k + 1) (n + 1)) ≡ noted q x k n r
           go zero y b = absurd (y refl)
@@ -77,10 +70,6 @@ pub ruleset enter-laws = (needs, enter-stop, enter-none, enter-many, enter-long,
 -- ---- a character is read
 
 module _ (ws : List ℕ) (size q n : ℕ) (r : Result) (c : ℕ) where
-  pub step-stop : q ≡ 0 → rests q n r ≡ step ws size (rests q n r) c
-  unfolding step
-  step-stop z = rw z
-
   module _ (y : q ≡ 0 → ⊥) (t : ℕ) (e : t ≡ wordOf ws q c) where
     stepped : step ws size (rests q n r) c ≡ onlyIf (ltb t size) (enter ws t (suc n) r)
     stepped = step-pos ws size q n r c (positive q y) ∙ rw e
@@ -94,7 +83,7 @@ module _ (ws : List ℕ) (size q n : ℕ) (r : Result) (c : ℕ) where
 pub step-next : (ws : List ℕ) (size q n t : ℕ) → Entered ws size q n → t < size → Entered ws size t n
 step-next ws size q n t s h = record { state = h; long = s .long; near = s .near }
 
-pub ruleset step-laws = (needs, step-stop, step-over, step-on, step-next)
+pub ruleset step-laws = (needs, step-over, step-on, step-next)
 
 -- ---- the loop: what is left of the text is walked from where the run rests
 
@@ -202,9 +191,9 @@ module _ (ws h : List ℕ) (size : ℕ) (e : size ≡ sizeOf ws) where
   pub start-entered : isSized ws ≡ true → length h ≤ 65536 → Entered ws size 1 (0 + length h)
   start-entered y l = let z = sized-is ws y in record { state = omega (arith, z .low); long = omega (arith, z .long); near = omega arith }
 
-  pub start-over : (w : Walk) → w ≡ walk ws size h (enter ws 1 0 (noteBy 0 0 0)) → w ≡ runOver ws h
+  pub start-over : (w : Walk) → w ≡ walk ws size h (enter ws 1 0 (placed 0 0 0)) → w ≡ runOver ws h
   unfolding runOver
-  start-over w x = x ∙ rw (e, note-none 0 0 0 refl)
+  start-over w x = x ∙ rw (e, placed-none 0 0 0 refl)
 
 pub ruleset start-laws = (needs, start-entered, start-over)
 
@@ -216,10 +205,10 @@ module _ (w : Walked) where
 
   module _ (p : Progress) (e : w ≡ Rests p) where
     pub ended-none : p .last .string ≡ 0 → gives (nothing, p .read) ≡ ended (walkedOf w)
-    ended-none d = rw e (ap (λ (r : Result). gives (r, p .read)) (sym (note-none (p .last .string) (p .last .pos1) (p .last .pos2) d)))
+    ended-none d = rw e (ap (λ (r : Result). gives (r, p .read)) (sym (placed-none (p .last .string) (p .last .pos1) (p .last .pos2) d)))
 
     pub ended-at : (p .last .string ≡ 0 → ⊥) → gives (found (p .last .string) (p .last .pos1) (p .last .pos2), p .read) ≡ ended (walkedOf w)
-    ended-at d = rw e (ap (λ (r : Result). gives (r, p .read)) (sym (note-by (p .last .string) (p .last .pos1) (p .last .pos2) d)))
+    ended-at d = rw e (ap (λ (r : Result). gives (r, p .read)) (sym (placed-some (p .last .string) (p .last .pos1) (p .last .pos2) d)))
 
 pub ruleset ended-laws = (needs, ended-bad, ended-none, ended-at)
 
@@ -232,13 +221,10 @@ unfolding beforeRun
 run-checked s host ws found₁ e₁ found₂ e₂ found₃ e₃ found₄ e₄ = first-is (beforeChecks s host ws) refl found₄ (rw (e₄, e₃, e₂, e₁))
 
 module _ (s : List ℕ) (host : StrPtr) (ws : List ℕ) where
-  abbrev afterwards : List (ℕ × Bool)
-  afterwards = (10, isRest (runOver ws (textOf s host))) ∷ []
-
   -- nothing was refused before: the answer is the run's
   ran : beforeRun s host ws ≡ 0 → ended (runOver ws (textOf s host)) ≡ runRule s host ws
   unfolding beforeRun runRefusal runRule outcome
-  ran z = rw (first-behind (beforeChecks s host ws) afterwards refl z) (go (runOver ws (textOf s host)))
+  ran z = rw (first-behind (beforeChecks s host ws) (metChecks s host ws) refl z) (go (runOver ws (textOf s host)))
     where
       go : (w : Walk) → ended w ≡ outcome (first ((10, isRest w) ∷ [])) (ranOf w)
       go bad = refl
@@ -264,7 +250,7 @@ module _ (s : List ℕ) (host : StrPtr) (ws : List ℕ) where
   module _ (k : ℕ) (e : k ≡ beforeRun s host ws) where
     pub run-refused : (k ≡ 0 → ⊥) → refused k ≡ runRule s host ws
     unfolding beforeRun runRefusal runRule
-    run-refused h = outcome-no k (runRefusal s host ws) (first-before (beforeChecks s host ws) afterwards k e h) (ranOf (runOver ws (textOf s host))) h
+    run-refused h = outcome-no k (runRefusal s host ws) (first-before (beforeChecks s host ws) (metChecks s host ws) k e h) (ranOf (runOver ws (textOf s host))) h
 
     module _ (z : k ≡ 0) where
       pub run-sized : isSized ws ≡ true

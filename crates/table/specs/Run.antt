@@ -1,7 +1,7 @@
 -- The run of a table over a host: 01, "The search table". A table is a list of words, and any words may be passed. Assumes nothing.
 use Prim.Native.Nat.{ℕ, zero, suc, _+_, _-_, _*_}
 use mathlib.Core.Bool.{Bool, true, false, _&&_}
-use mathlib.Core.List.{List, [], _∷_}
+use mathlib.Core.List.{List, [], _∷_, _++_}
 use lib.Dec.{leb, ltb}
 use lib.ListN.{length, getD}
 use Rattle.strlib.specs.Pointer.{storeFits, goodIn, textOf, readable}
@@ -67,9 +67,14 @@ ranOf bad = (nothing, 0)
 ranOf (rests q n r) = (r, n)
 
 -- 10 in two parts: by the first word and the number of words, then as words are met
+abbrev pub beforeChecks : List ℕ → StrPtr → List ℕ → List (ℕ × Bool)
+beforeChecks s host ws = (3, storeFits s) ∷ (1, goodIn (length s) host) ∷ (2, readable s host) ∷ (10, isSized ws) ∷ []
+
+abbrev pub metChecks : List ℕ → StrPtr → List ℕ → List (ℕ × Bool)
+metChecks s host ws = (10, isRest (runOver ws (textOf s host))) ∷ []
+
 abbrev pub runChecks : List ℕ → StrPtr → List ℕ → List (ℕ × Bool)
-runChecks s host ws =
-    (3, storeFits s) ∷ (1, goodIn (length s) host) ∷ (2, readable s host) ∷ (10, isSized ws) ∷ (10, isRest (runOver ws (textOf s host))) ∷ []
+runChecks s host ws = beforeChecks s host ws ++ metChecks s host ws
 
 unfoldable pub runRefusal : List ℕ → StrPtr → List ℕ → ℕ
 runRefusal s host ws = first (runChecks s host ws)

@@ -9,7 +9,6 @@ ghost use lib.ListN.{length};
 ghost use Rattle.strlib.specs.Pointer.{characters};
 ghost use Rattle.table.specs.Run.{sizeOf, enter, step, walk};
 ghost use Rattle.table.specs.Inner.{noteOf, restsOf, walkedOf, Entered};
-pub use onward::fit_together;
 pub use onward::resume;
 pub use runs::run;
 
@@ -52,7 +51,7 @@ pub const STRING_WORD: usize = 128;
 
 pub const LENGTH_WORD: usize = 129;
 
-fn wide(x: u16) -> usize
+pub fn wide(x: u16) -> usize
     ensures { λ r. ⌜ r ≡ x ⌝ }
 {
     x as usize
@@ -100,16 +99,12 @@ fn enter(table: &[u16], size: usize, at: Progress) -> Walked
     })
 }
 
-// One character is read and the next state entered; a run that stopped stays.
+// One character is read and the next state entered.
 fn step(table: &[u16], size: usize, at: Progress, c: u8) -> Walked
-    requires { ⌜ Entered (now table) size (at .state) (at .read + 1) × (c ≤ 127) ⌝ }
+    requires { ⌜ Entered (now table) size (at .state) (at .read + 1) × (c ≤ 127) × (at .state ≡ 0 → ⊥) ⌝ }
     ensures { λ r. ⌜ walkedOf r ≡ step (now (table .entry)) size (restsOf at) c ⌝ }
 {
-    let from = at.state;
-    if from == 0 {
-        return Walked::Rests(at);
-    }
-    let next = wide(table[1 + STATE_WORDS * from + c as usize]);
+    let next = wide(table[1 + STATE_WORDS * at.state + c as usize]);
     if size <= next {
         return Walked::Bad;
     }

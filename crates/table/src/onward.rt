@@ -3,25 +3,14 @@ use super::Progress;
 use super::Walked;
 use strlib::StrPtr;
 ghost use mathlib.Core.Path.{_≡_};
-ghost use Prim.Native.Nat.{_+_};
-ghost use lib.Dec.{leb};
 ghost use Rattle.table.specs.Resume.{canResume, resumed};
 ghost use Rattle.table.specs.Inner.{noteOf, walkedOf};
-
-// Whether n characters and m more are at most a store's.
-pub fn fit_together(n: usize, m: usize) -> bool
-    ensures { λ r. ⌜ r ≡ leb (n + m) 65536 ⌝ }
-{
-    if StrPtr::STORE_MAX < m {
-        return false;
-    }
-    n <= StrPtr::STORE_MAX - m
-}
 
 fn can_resume(text: &[u8], table: &[u16], state: usize, read: usize) -> bool
     ensures { λ r. ⌜ r ≡ canResume (now (table .entry)) (now (text .entry)) state read ⌝ }
 {
-    let readable = strlib::both(strlib::are_characters(text), fit_together(read, text.len()));
+    let near = strlib::is_within(StrPtr::STORE_MAX, read, text.len());
+    let readable = strlib::both(strlib::are_characters(text), near);
     strlib::both(
         super::runs::is_sized(table),
         strlib::both(state < super::size_of(table), readable),

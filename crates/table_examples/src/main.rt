@@ -1,6 +1,8 @@
 // Examples A to I of document 01, and a few more, through the plain search and through a table: one translation each, run over the host and over
 // the host without its first character. A line says what the table's run gives, and whether the plain search gives the same. Where a line says
 // less read than the host has, nothing that followed could change the answer (02, W12).
+use saying::say;
+use saying::say_number;
 use search::SearchAnswer;
 use strlib::StrList;
 use strlib::StrPtr;
@@ -38,15 +40,6 @@ fn search_two(
         }
         TranslateAnswer::Refused(n) => TwoAnswer::Refused(n),
     }
-}
-
-fn say(text: &[u8]) {
-    io::write_all(1, text);
-}
-
-fn say_number(n: usize) {
-    say(b" ");
-    io::print_decimal(1, n as u64);
 }
 
 fn say_same(same: bool) {

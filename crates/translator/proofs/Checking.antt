@@ -13,7 +13,7 @@ use Rattle.strlib.proofs.Pointing.{fits-is}
 use Rattle.strlib.proofs.Refusing.{first-is, first-before, first-behind, Passed, passed, outcome-no, outcome-yes}
 use Rattle.strlib.proofs.Texts.{texts-long, texts-readable}
 use Rattle.strlib.specs.Pointer.{storeFits, goodIn, textOf, all, characters, readable}
-use Rattle.strlib.specs.Refusal.{refused, gives, first, also, outcome}
+use Rattle.strlib.specs.Refusal.{refused, gives, first, also}
 use Rattle.strlib.specs.declared.StrPtr.{StrPtr}
 use Rattle.search.specs.Search.{Result, plainSearch}
 use Rattle.table.proofs.Running.{is-sized, run-gave, run-plain}

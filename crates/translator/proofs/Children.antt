@@ -11,12 +11,12 @@ use mir.Val.{Fits}
 use Rattle.strlib.proofs.Listing.{all-at}
 use Rattle.strlib.specs.Pointer.{textOf, all, characters}
 use Rattle.strlib.specs.declared.StrPtr.{StrPtr}
-use Rattle.states.proofs.Numbering.{before-suc, before-le, before-total}
+use Rattle.states.proofs.Numbering.{before-le, before-total}
 use Rattle.states.proofs.Writing.{children-none, children-more, children-all}
 use Rattle.states.specs.State.{total, before}
 use Rattle.states.specs.Fill.{Put, Children}
 use Rattle.translator.proofs.Common.{tells-long, tells-one}
-use Rattle.translator.proofs.Listing.{listed-length, listed-at}
+use Rattle.translator.proofs.Listing.{listed-is, listed-length, listed-next}
 use Rattle.translator.specs.Translate.{listed}
 use Rattle.translator.specs.Common.{Tells, TellsAll}
 
@@ -29,14 +29,12 @@ module _ (s : List ℕ) (list : List StrPtr) (m : ℕ) (few : m ≤ 32) (size : 
 
   module _ (k n : ℕ) (x : List ℕ) (d : StrPtr) (k0 : 0 < k) (km : k ≤ m) (e : n ≡ before (listed s list m) k) (p : x ≡ textOf s (getD list (k - 1) d)) where
     is : x ≡ getD (listed s list m) (k - 1) []
-    is = p ∙ sym (listed-at s list m few size (k - 1) d (omega arith))
+    is = sym (listed-is s list m few size (k - 1) x d (omega arith) p)
 
     split : before (listed s list m) k ≡ before (listed s list m) (k - 1) + length x
     split =
         let z : suc (k - 1) ≡ k = omega arith in
-        ap (before (listed s list m)) (sym z)
-        ∙ before-suc (listed s list m) (k - 1) (omega (arith, listed-length s list m few size))
-        ∙ ap (λ (t : List ℕ). before (listed s list m) (k - 1) + length t) (sym is)
+        ap (before (listed s list m)) (sym z) ∙ listed-next s list m few size (k - 1) x d (omega arith) p
 
     pub child-room : length x ≤ n
     child-room = omega (arith, split)

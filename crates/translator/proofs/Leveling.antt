@@ -12,10 +12,10 @@ use Rattle.strlib.proofs.Listing.{all-at}
 use Rattle.strlib.specs.Pointer.{textOf, characters}
 use Rattle.strlib.specs.declared.StrPtr.{StrPtr}
 use Rattle.states.proofs.Levelling.{kept-step, level-step, level-next, level-short}
-use Rattle.states.proofs.Numbering.{before-zero, before-suc, before-le, state-le}
+use Rattle.states.proofs.Numbering.{before-zero, before-le, state-le}
 use Rattle.states.specs.State.{total, before}
 use Rattle.states.specs.Fill.{Stepped, levelOf, Levels, Kept}
-use Rattle.translator.proofs.Listing.{listed-length, listed-at}
+use Rattle.translator.proofs.Listing.{listed-is, listed-length, listed-next}
 use Rattle.translator.proofs.Rows.{ready-same}
 use Rattle.translator.specs.Translate.{listed}
 use Rattle.translator.specs.Inner.{Ready, Turn, Leveled}
@@ -29,10 +29,10 @@ module _ (s : List ℕ) (list : List StrPtr) (count : ℕ) (ws₀ : List ℕ) (r
     inside = omega (arith, listed-length s list count (r .few) size)
 
     is : getD (listed s list count) j [] ≡ x
-    is = listed-at s list count (r .few) size j d h ∙ sym p
+    is = listed-is s list count (r .few) size j x d h p
 
     after : before (listed s list count) (j + 1) ≡ before (listed s list count) j + length x
-    after = ap (before (listed s list count)) (add-one j) ∙ before-suc (listed s list count) j inside ∙ ap (λ (t : List ℕ). before (listed s list count) j + length t) is
+    after = ap (before (listed s list count)) (add-one j) ∙ listed-next s list count (r .few) size j x d h p
 
     pub level-off : off + length x ≡ before (listed s list count) (j + 1)
     level-off = omega (arith, after)

@@ -14,7 +14,8 @@ use Rattle.strlib.proofs.Texts.{texts-long, texts-take, listed-text}
 use Rattle.strlib.specs.Pointer.{textOf, texts}
 use Rattle.strlib.specs.declared.StrPtr.{StrPtr}
 use Rattle.search.specs.Search.{lengthOf}
-use Rattle.states.specs.State.{total}
+use Rattle.states.proofs.Numbering.{before-suc}
+use Rattle.states.specs.State.{total, before}
 use Rattle.translator.specs.Translate.{listed}
 
 module _ (s : List ℕ) (list : List StrPtr) (n : ℕ) (few : n ≤ 32) (size : length list ≡ 32) where
@@ -32,6 +33,15 @@ module _ (s : List ℕ) (list : List StrPtr) (n : ℕ) (few : n ≤ 32) (size : 
 
   pub listed-take : (m : ℕ) → m ≤ n → take m (listed s list n) ≡ listed s list m
   listed-take m h = texts-take s (take n list) m ∙ ap (texts s) (take-take m n list h)
+
+  -- the characters of one string, and those before the next one
+  module _ (k : ℕ) (x : List ℕ) (d : StrPtr) (h : k < n) (p : x ≡ textOf s (getD list k d)) where
+    pub listed-is : getD (listed s list n) k [] ≡ x
+    listed-is = listed-at k d h ∙ sym p
+
+    pub listed-next : before (listed s list n) (suc k) ≡ before (listed s list n) k + length x
+    listed-next =
+        before-suc (listed s list n) k (omega (arith, listed-length)) ∙ ap (λ (t : List ℕ). before (listed s list n) k + length t) listed-is
 
 text-le : (s : List ℕ) (p : StrPtr) → length (textOf s p) ≤ length s
 unfolding textOf

@@ -152,7 +152,11 @@ module _ (s : List ℕ) (list : List StrPtr) (count : ℕ) (ws : List ℕ) (r : 
             next = λ a. f a ∙ next-fail (listed s list count) ws x l fail (t .rows) (t .some) a (omega (arith, character-at x l (t .plain) a)) (t .failed h);
           }
 
-pub ruleset small-laws = (needs, open-not, limit-not, root-one, root-shut, word-some)
+-- the word of a character that is known by another name
+pub word-next : (ws : List ℕ) (q l n c d r : ℕ) → r ≡ wordOrStop ws q c → c ≡ d → l < n → r ≡ wordOrStop ws q d
+word-next ws q l n c d r e f h = e ∙ rw f
+
+pub ruleset small-laws = (needs, open-not, limit-not, root-one, root-shut, word-some, word-next)
 
 pub ruleset finish-laws = (needs, finish-closing, finish-few, finish-plain, finish-small, finish-tells, finish-row)
 

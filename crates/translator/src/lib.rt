@@ -27,12 +27,6 @@ pub enum TranslateAnswer {
     Refused(u8),
 }
 
-fn wide(x: u16) -> usize
-    ensures { λ r. ⌜ r ≡ x ⌝ }
-{
-    x as usize
-}
-
 // A character as the index of its word.
 fn code(c: u8) -> usize
     ensures { λ r. ⌜ r ≡ c ⌝ }
@@ -272,7 +266,7 @@ fn row_word(table: &[u16], q: usize, c: usize) -> usize
     if q == 0 {
         return 0;
     }
-    wide(table[1 + STATE_WORDS * q + c])
+    table::wide(table[1 + STATE_WORDS * q + c])
 }
 
 // The state of the tail of l + 1 characters of x, from that of l.

@@ -11,7 +11,6 @@ step-spec =
     (λ c. search step-laws)
     (λ c. search step-laws)
     (λ c. search step-laws)
-    (λ c. search step-laws)
     (λ c κs. search step-laws)
     (λ c. search step-laws)
     (λ c. search step-laws)

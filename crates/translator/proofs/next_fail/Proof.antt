@@ -1,7 +1,7 @@
 use Prim.Native.Nat.{_<_}
 use native.Mathlib.Omega.{arith}
-use borrow.Author.Needs.{needs}
 use Rattle.strlib.proofs.Texts.{character-at}
+use Rattle.translator.proofs.Rows.{small-laws}
 use Rattle.translator.proofs.next_fail.Statement.{statement}
 use Rattle.translator.proofs.next_fail.Tie as tie
 
@@ -16,8 +16,8 @@ pub next-fail-spec : {M : Type 1} → statement M
 next-fail-spec =
     tie.close
     (tie.spec
-    (λ c. search needs)
-    (λ c. search needs)
-    (λ c κs. search needs)
+    (λ c. search small-laws)
+    (λ c. search small-laws)
+    (λ c κs. search small-laws)
     (λ c κs. omega (arith, small c))
-    (λ c. λ h. cc))
+    (λ c. search small-laws))

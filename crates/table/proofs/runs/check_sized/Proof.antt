@@ -1,4 +1,4 @@
-use Rattle.strlib.proofs.Refusing.{check-laws}
+use Rattle.strlib.proofs.Refusing.{also-laws}
 use Rattle.table.proofs.runs.check_sized.Statement.{statement}
 use Rattle.table.proofs.runs.check_sized.Tie as tie
 
@@ -6,7 +6,7 @@ pub check-sized-spec : {M : Type 1} → statement M
 check-sized-spec =
     tie.close
     (tie.spec
-    (λ c. search check-laws)
+    (λ c. search also-laws)
     (λ c κs. tt)
     (λ c κs. tt)
-    (λ c. cc))
+    (λ c. search also-laws))

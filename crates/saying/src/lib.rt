@@ -1,28 +1,36 @@
-// How the answers are written, and the cuts that the sections share.
+// How the programs of examples write an answer.
 use strlib::StrAnswer;
 use strlib::StrPtr;
 
-pub(crate) fn say(text: &[u8]) {
+pub fn say(text: &[u8]) {
     io::write_all(1, text);
 }
 
-pub(crate) fn end_line() {
+pub fn end_line() {
     say(b"\n");
 }
 
-pub(crate) fn say_number(n: usize) {
+pub fn say_number(n: usize) {
     say(b" ");
     io::print_decimal(1, n as u64);
 }
 
-pub(crate) fn say_refused(n: u8) {
+pub fn say_refused(n: u8) {
     say(b" refused");
     say_number(n as usize);
     end_line();
 }
 
+pub fn say_yes(yes: bool) {
+    if yes {
+        say(b" yes");
+    } else {
+        say(b" no");
+    }
+}
+
 // A string: its characters, its length and its maximum.
-pub(crate) fn say_string(store: &[u8], p: StrPtr) {
+pub fn say_string(store: &[u8], p: StrPtr) {
     say(b" '");
     say(strlib::text(store, p));
     say(b"'");
@@ -32,14 +40,14 @@ pub(crate) fn say_string(store: &[u8], p: StrPtr) {
 }
 
 // A line for a string.
-pub(crate) fn show(name: &[u8], store: &[u8], p: StrPtr) {
+pub fn show(name: &[u8], store: &[u8], p: StrPtr) {
     say(name);
     say_string(store, p);
     end_line();
 }
 
 // A line for a call that gives a string or refuses.
-pub(crate) fn show_answer(name: &[u8], store: &[u8], r: StrAnswer) {
+pub fn show_answer(name: &[u8], store: &[u8], r: StrAnswer) {
     match r {
         StrAnswer::Given(p) => show(name, store, p),
         StrAnswer::Refused(n) => {
@@ -50,17 +58,9 @@ pub(crate) fn show_answer(name: &[u8], store: &[u8], r: StrAnswer) {
 }
 
 // The string that a call gave, to go on with; the null string where it refused.
-pub(crate) fn given(r: StrAnswer) -> StrPtr {
+pub fn given(r: StrAnswer) -> StrPtr {
     match r {
         StrAnswer::Given(p) => p,
         StrAnswer::Refused(_) => StrPtr::full(0, 0),
     }
-}
-
-pub(crate) fn relative(store: &[u8], string: StrPtr, offset: usize) -> StrPtr {
-    given(cutting::relative(store, string, offset))
-}
-
-pub(crate) fn between(store: &[u8], string: StrPtr, pos1: usize, pos2: usize) -> StrPtr {
-    given(cutting::between(store, string, pos1, pos2))
 }

@@ -85,3 +85,8 @@ module _ (s : List ℕ) (l : List StrPtr) (e : l ≡ firstWords 8 s 0) where
       en ∙ seven (length (words s)) (getD l 6 o .length) (getD l 7 p .length) (some-is 6 (omega arith) o) (some-is 7 (omega arith) p)
       in
       er ∙ rw (n, eh, ef, eg, ea, eb, ec, ed, text-is 0 (omega arith) q, text-is 2 (omega arith) u, text-is 3 (omega arith) v, text-is 5 (omega arith) w)
+
+pub word-same : (s : List ℕ) (p : StrPtr) (t y : List ℕ) (b : Bool) → t ≡ textOf s p → b ≡ same t y → b ≡ same (textOf s p) y
+word-same s p t y b e f = rw (← e) f
+
+pub ruleset word-laws = (needs, word-same)

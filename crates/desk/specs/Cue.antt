@@ -1,7 +1,7 @@
 -- Cue lines: 01, "Cue lines and labels". `MIC n TO LSP m GAIN g` is seven words; the line is its own store. Assumes nothing.
 use Prim.Native.Nat.{ℕ, _-_}
 use mathlib.Core.Bool.{Bool, _&&_}
-use mathlib.Core.List.{List, [], _∷_}
+use mathlib.Core.List.{List, [], _∷_, _++_}
 use lib.Dec.{eqb, leb}
 use lib.IntN.{ℤ, pos, negsuc, natAbs}
 use lib.ListN.{length, getD}
@@ -53,18 +53,26 @@ isIndex size z = leZ (pos 1) z && leZ z (pos size)
 unfoldable pub isGain : ℤ → Bool
 isGain z = leZ (negsuc 959) z && leZ z (pos 120)
 
--- the checks of a cue line, in their order: 3 and 2 as in every call, 11, then 7 or 8 of the numbers from left to right, then 12
+-- the checks of a cue line, in their order: 3 and 2 as in every call, 11 of a line that is too long, and of its words
+abbrev pub lineChecks : List ℕ → ℕ → ℕ → List (ℕ × Bool)
+lineChecks line mics lsps =
+    (3, storeFits line) ∷ (3, isSize 64 mics) ∷ (3, isSize 128 lsps) ∷ (2, characters line) ∷ (11, leb (length line) 80) ∷ []
+
+-- then 7 or 8 of the numbers from left to right, then 12 of the numbers against the matrix
+abbrev pub textChecks : List ℕ → List (ℕ × Bool)
+textChecks t = (7, isNumber 10 t) ∷ (8, inRange (numberOf 10 t)) ∷ []
+
+abbrev pub matrixChecks : ℕ → ℕ → ℤ → ℤ → ℤ → List (ℕ × Bool)
+matrixChecks mics lsps n m g = (12, isIndex mics n) ∷ (12, isIndex lsps m) ∷ (12, isGain g) ∷ []
+
+abbrev pub numberChecks : ℕ → ℕ → List ℕ → List ℕ → List ℕ → List (ℕ × Bool)
+numberChecks mics lsps a b c = textChecks a ++ (textChecks b ++ (textChecks c ++ matrixChecks mics lsps (numberOf 10 a) (numberOf 10 b) (numberOf 10 c)))
+
+abbrev pub wordChecks : List ℕ → ℕ → ℕ → List (ℕ × Bool)
+wordChecks line mics lsps = (11, formed line) ∷ numberChecks mics lsps (micWord line) (lspWord line) (gainWord line)
+
 abbrev pub cueChecks : List ℕ → ℕ → ℕ → List (ℕ × Bool)
-cueChecks line mics lsps =
-    (3, storeFits line) ∷ (3, isSize 64 mics) ∷ (3, isSize 128 lsps)
-    ∷ (2, characters line)
-    ∷ (11, leb (length line) 80) ∷ (11, formed line)
-    ∷ (7, isNumber 10 (micWord line)) ∷ (8, inRange (numberOf 10 (micWord line)))
-    ∷ (7, isNumber 10 (lspWord line)) ∷ (8, inRange (numberOf 10 (lspWord line)))
-    ∷ (7, isNumber 10 (gainWord line)) ∷ (8, inRange (numberOf 10 (gainWord line)))
-    ∷ (12, isIndex mics (numberOf 10 (micWord line)))
-    ∷ (12, isIndex lsps (numberOf 10 (lspWord line)))
-    ∷ (12, isGain (numberOf 10 (gainWord line))) ∷ []
+cueChecks line mics lsps = lineChecks line mics lsps ++ wordChecks line mics lsps
 
 -- its refusal, 0 for none
 unfoldable pub cueRefusal : List ℕ → ℕ → ℕ → ℕ

@@ -15,7 +15,8 @@ use Rattle.strlib.specs.Store.{put}
 use Rattle.strlib.specs.declared.StrPtr.{StrPtr}
 use Rattle.moving.proofs.Pasting.{pasted-in, pasted-length}
 use Rattle.moving.specs.Moving.{pasted}
-use Rattle.records.specs.Record.{headSize, widthOf, sizeOf, padded, labelBytes, fittedBytes}
+use Rattle.records.proofs.Limits.{size-fits}
+use Rattle.records.specs.Record.{headSize, widthOf, padded, labelBytes, fittedBytes}
 
 pub low-byte : (n : ℕ) → Fits w8 (n % 256)
 low-byte n = record { fits = omega arith }
@@ -48,18 +49,17 @@ module _ (kind number : ℕ) (name : List ℕ) where
     bytes-long : length y ≡ 19
     bytes-long = ap length ey ∙ pasted-length headed headSize x
 
-    module _ (size : ℕ) (es : size ≡ sizeOf kind) where
-      all-long : size ≡ 19
-      unfolding sizeOf widthOf
-      all-long = es
+    all-long : headSize + w ≡ 19
+    unfolding widthOf
+    all-long = omega arith
 
-      pub prefix-in : size ≤ length y
-      prefix-in = omega (arith, all-long, bytes-long)
+    pub prefix-in : headSize + w ≤ length y
+    prefix-in = omega (arith, all-long, bytes-long)
 
-      pub prefix-long : length (take size y) ≡ size
-      prefix-long = rw length-take (omega (arith, all-long, bytes-long))
+    pub prefix-long : length (take (headSize + w) y) ≡ headSize + w
+    prefix-long = rw length-take (omega (arith, all-long, bytes-long))
 
-      pub record-put : (b b′ : List ℕ) (at : ℕ) → b′ ≡ pasted b at (take size y) → b′ ≡ pasted b at (fittedBytes kind number name)
-      record-put b b′ at e = e ∙ rw (take-all size y (omega (arith, all-long, bytes-long)), bytes-are)
+    pub record-put : (b b′ : List ℕ) (at : ℕ) → b′ ≡ pasted b at (take (headSize + w) y) → b′ ≡ pasted b at (fittedBytes kind number name)
+    record-put b b′ at e = e ∙ rw (take-all (headSize + w) y (omega (arith, all-long, bytes-long)), bytes-are)
 
-pub ruleset build-laws = (needs, low-byte, pasted-length, prefix-in, prefix-long, record-put)
+pub ruleset build-laws = (needs, low-byte, pasted-length, size-fits, prefix-in, prefix-long, record-put)

@@ -31,7 +31,8 @@ pub fn write_record(buffer: &mut [u8], at: usize, kind: u8, number: usize, name:
     record[0] = kind;
     record[1] = (number / 256 % 256) as u8;
     record[2] = (number % 256) as u8;
-    let fitting = strlib::text(name, StrPtr::full(0, kinds::width_of(kind)));
+    let width = kinds::width_of(kind);
+    let fitting = strlib::text(name, StrPtr::full(0, width));
     moving::write_bytes(&mut record, kinds::HEAD, fitting);
-    moving::write_bytes(buffer, at, &record[..kinds::size_of(kind)]);
+    moving::write_bytes(buffer, at, &record[..kinds::HEAD + width]);
 }

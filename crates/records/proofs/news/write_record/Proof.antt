@@ -16,7 +16,7 @@ write-record-spec =
     (λ c κs. tt)
     (λ c. search build-laws)
     (λ c κs. tt)
-    (λ c κs. tt)
+    (λ c. search build-laws)
     (λ c. search build-laws)
     (λ c. search build-laws)
     (λ c κs. tt)

@@ -1,28 +1,39 @@
 -- Laws of the answers: the checks made in turn give the refusal, and what the loops did gives the answer. Assumes nothing.
 use Prim.Native.Nat.{ℕ}
 use mathlib.Core.Path.{_≡_, refl, sym, ap, _∙_}
-use mathlib.Core.Bool.{Bool}
+use mathlib.Core.Bool.{Bool, true}
 use mathlib.Core.List.{List}
+use lib.Dec.{eqb, ltb}
 use lib.ListN.{length}
 use borrow.Author.Needs.{needs}
 use borrow.Author.Tests.{eqb-true}
-use Rattle.strlib.proofs.Refusing.{inTurn, first-is, Passed, passed, outcome-no, outcome-yes, ruled-no, ruled-yes}
-use Rattle.strlib.specs.Pointer.{textOf, characters, readable}
-use Rattle.strlib.specs.Refusal.{refused, gives}
+use Rattle.strlib.proofs.Refusing.{first-is, passed, outcome-no, outcome-yes, ruled-no, ruled-yes}
+use Rattle.strlib.specs.Pointer.{storeFits, goodIn, textOf, characters, readable}
+use Rattle.strlib.specs.Refusal.{refused, gives, also}
 use Rattle.strlib.specs.declared.StrPtr.{StrPtr}
 use Rattle.charset.specs.Inner.{Ready}
 use Rattle.charset.specs.Rule.{blockChecks, blockRefusal, tablesRule, setChecks, setRefusal, charactersRule, foundFrom, findRule, charAnswered}
-use Rattle.charset.specs.Sets.{blockFits, turnedAll, turnedAt}
+use Rattle.charset.specs.Sets.{blockFits, maskFits, turnedAll, turnedAt}
 use Rattle.charset.specs.declared.CharAnswer.{CharAnswer}
 
 -- ---- a block and a mask
 
-module _ (block : List ℕ) (mask k : ℕ) where
-  pub block-checked : k ≡ inTurn 0 (blockChecks block mask) → k ≡ blockRefusal block mask
-  unfolding blockRefusal
-  block-checked e = first-is (blockChecks block mask) refl k e
+module _ (block : List ℕ) (mask : ℕ) where
+  pub block-checked : (found₁ : ℕ) → found₁ ≡ also 0 3 (eqb (length block) 128) → (found₂ : ℕ) → found₂ ≡ also found₁ 3 (ltb mask 68719476736)
+      → found₂ ≡ blockRefusal block mask
+  unfolding blockRefusal blockFits maskFits
+  block-checked found₁ e₁ found₂ e₂ = first-is (blockChecks block mask) refl found₂ (rw (e₂, e₁))
 
-  module _ (on : Bool) (e : k ≡ blockRefusal block mask) where
+  -- the checks by their names, where all are passed
+  pub record BlockPassed : Type 0 where
+    pub words : blockFits block ≡ true
+    pub tables : maskFits mask ≡ true
+
+  pub block-passed : blockRefusal block mask ≡ 0 → BlockPassed
+  unfolding blockRefusal
+  block-passed e = let ok = passed (blockChecks block mask) refl e in record { words = ok .0; tables = ok .1 .0 }
+
+  module _ (on : Bool) (k : ℕ) (e : k ≡ blockRefusal block mask) where
     pub tables-no : (k ≡ 0 → ⊥) → (refused k, block) ≡ tablesRule on block mask
     unfolding tablesRule
     tables-no z = ruled-no k (blockRefusal block mask) e tt (turnedAll on mask block) block z
@@ -33,17 +44,32 @@ module _ (block : List ℕ) (mask k : ℕ) where
 
 -- ---- and a string
 
-module _ (s : List ℕ) (p : StrPtr) (block : List ℕ) (mask k : ℕ) where
-  pub set-checked : k ≡ inTurn 0 (setChecks s p block mask) → k ≡ setRefusal s p block mask
-  unfolding setRefusal
-  set-checked e = first-is (setChecks s p block mask) refl k e
+module _ (s : List ℕ) (p : StrPtr) (block : List ℕ) (mask : ℕ) where
+  pub set-checked : (found₁ : ℕ) → found₁ ≡ also 0 3 (storeFits s) → (found₂ : ℕ) → found₂ ≡ also found₁ 3 (eqb (length block) 128)
+      → (found₃ : ℕ) → found₃ ≡ also found₂ 3 (ltb mask 68719476736) → (found₄ : ℕ) → found₄ ≡ also found₃ 1 (goodIn (length s) p)
+      → (found₅ : ℕ) → found₅ ≡ also found₄ 2 (readable s p) → found₅ ≡ setRefusal s p block mask
+  unfolding setRefusal blockFits maskFits
+  set-checked found₁ e₁ found₂ e₂ found₃ e₃ found₄ e₄ found₅ e₅ = first-is (setChecks s p block mask) refl found₅ (rw (e₅, e₄, e₃, e₂, e₁))
 
-  module _ (e : k ≡ setRefusal s p block mask) where
+  pub record SetPassed : Type 0 where
+    pub fits : storeFits s ≡ true
+    pub words : blockFits block ≡ true
+    pub tables : maskFits mask ≡ true
+    pub good : goodIn (length s) p ≡ true
+    pub reads : readable s p ≡ true
+
+  pub set-passed : setRefusal s p block mask ≡ 0 → SetPassed
+  unfolding setRefusal
+  set-passed e =
+      let ok = passed (setChecks s p block mask) refl e in
+      record { fits = ok .0; words = ok .1 .0; tables = ok .1 .1 .0; good = ok .1 .1 .1 .0; reads = ok .1 .1 .1 .1 .0 }
+
+  module _ (k : ℕ) (e : k ≡ setRefusal s p block mask) where
     pub set-ready : (t : List ℕ) → t ≡ textOf s p → k ≡ 0 → Ready t block
-    unfolding setRefusal blockFits readable
+    unfolding blockFits readable
     set-ready t q z =
-        let ok : Passed (setChecks s p block mask) = passed (setChecks s p block mask) refl (sym e ∙ z) in
-        record { words = eqb-true (length block) 128 (ok .1 .0); codes = ap characters q ∙ ok .1 .1 .1 .1 .0 }
+        let ok : SetPassed = set-passed (sym e ∙ z) in
+        record { words = eqb-true (length block) 128 (ok .words); codes = ap characters q ∙ ok .reads }
 
     module _ (on : Bool) where
       pub characters-no : (k ≡ 0 → ⊥) → (refused k, block) ≡ charactersRule on s p block mask
@@ -65,4 +91,4 @@ module _ (s : List ℕ) (p : StrPtr) (block : List ℕ) (mask k : ℕ) where
       find-yes t r q z y =
           y ∙ outcome-yes k (setRefusal s p block mask) e (foundFrom last block mask 1 t) (foundFrom last block mask 1 (textOf s p)) z (ap (foundFrom last block mask 1) q)
 
-pub ruleset answer-laws = (needs, tables-no, tables-yes, set-ready, characters-no, characters-yes, find-no, find-yes)
+pub ruleset answer-laws = (needs, block-checked, set-checked, tables-no, tables-yes, set-ready, characters-no, characters-yes, find-no, find-yes)

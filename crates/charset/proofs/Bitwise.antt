@@ -11,13 +11,14 @@ use lib.Dec.{eqb}
 use lib.ListN.{length, getD, set, length-set}
 use lib.Seq.{lt-length-set, getD-set-same, getD-set-other}
 use borrow.Author.Tests.{eqb-true, eq-eqb, ltb-true}
-use Rattle.strlib.proofs.Refusing.{bool-case, passed, ruled-gave}
+use Rattle.strlib.proofs.Refusing.{bool-case, ruled-gave}
 use Rattle.strlib.specs.Pointer.{textOf}
 use Rattle.strlib.specs.Refusal.{gives}
 use Rattle.strlib.specs.declared.StrPtr.{StrPtr}
 use Rattle.charset.specs.Bits.{bit, among, Turns}
-use Rattle.charset.specs.Rule.{blockChecks, blockRefusal, tablesRule, setChecks, setRefusal, charactersRule}
+use Rattle.charset.specs.Rule.{blockRefusal, tablesRule, setRefusal, charactersRule}
 use Rattle.charset.specs.Sets.{maskFits, turned, turnedAll, turnedAt}
+use Rattle.charset.proofs.Answering.{block-passed, set-passed}
 
 -- ---- digits
 
@@ -151,10 +152,10 @@ unfolding maskFits
 mask-small mask e = omega (arith, ltb-true mask (2 ^ 36) e)
 
 pub tables-turn : (on : Bool) (block : List ℕ) (mask : ℕ) → tablesRule on block mask .0 ≡ gives tt → Turns on mask (λ c. true) block (tablesRule on block mask .1)
-unfolding tablesRule blockRefusal
+unfolding tablesRule
 tables-turn on block mask e =
     let g = ruled-gave (blockRefusal block mask) tt tt (turnedAll on mask block) block e in
-    let m : maskFits mask ≡ true = passed (blockChecks block mask) refl (g .0) .1 .0 in
+    let m : maskFits mask ≡ true = block-passed block mask (g .0) .tables in
     let s : mask < 2 ^ 64 = mask-small mask m in
     rw (g .1 .1)
     (record {
@@ -167,11 +168,11 @@ tables-turn on block mask e =
 
 pub characters-turn : (on : Bool) (s : List ℕ) (p : StrPtr) (block : List ℕ) (mask : ℕ) → charactersRule on s p block mask .0 ≡ gives tt
     → Turns on mask (among (textOf s p)) block (charactersRule on s p block mask .1)
-unfolding charactersRule setRefusal
+unfolding charactersRule
 characters-turn on s p block mask e =
     let xs : List ℕ = textOf s p in
     let g = ruled-gave (setRefusal s p block mask) tt tt (turnedAt on mask xs block) block e in
-    let m : maskFits mask ≡ true = passed (setChecks s p block mask) refl (g .0) .1 .1 .0 in
+    let m : maskFits mask ≡ true = set-passed s p block mask (g .0) .tables in
     let k : mask < 2 ^ 64 = mask-small mask m in
     rw (g .1 .1)
     (record {

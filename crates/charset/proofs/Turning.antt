@@ -6,15 +6,12 @@ use mathlib.Core.List.{List, _++_, append-assoc, append-nil}
 use native.Mathlib.Numerals.{add-one}
 use native.Mathlib.Omega.{arith}
 use lib.Bits.{bitAnd, bitOr}
-use lib.Dec.{leb}
 use lib.ListN.{length, take, drop, getD, set, length-set, drop-of-length-le}
 use lib.Seq.{drop-cons, take-all, take-suc-set, drop-set-lt}
 use mir.Syntax.{w64}
 use mir.Val.{Fits}
 use borrow.Author.Needs.{needs}
-use borrow.Author.Tests.{leb-true}
-use Rattle.strlib.proofs.Listing.{all-at}
-use Rattle.strlib.specs.Pointer.{characters}
+use Rattle.strlib.proofs.Texts.{character-at}
 use Rattle.charset.specs.Inner.{Ready}
 use Rattle.charset.specs.Sets.{turned, turnedAll, turnedAt}
 
@@ -53,8 +50,7 @@ module _ (on : Bool) (mask : ℕ) (old block : List ℕ) (i : ℕ) (t : Turned o
 
 module _ (text block : List ℕ) (r : Ready text block) (i : ℕ) (h : i < length text) where
   pub code-small : getD text i 0 ≤ 127
-  unfolding characters
-  code-small = leb-true (getD text i 0) 127 (all-at (λ x. leb x 127) text i 0 (r .codes) h)
+  code-small = character-at text i (r .codes) h
 
   pub code-fits : Fits w64 (getD text i 0)
   code-fits = omega (arith, code-small)

@@ -1,7 +1,7 @@
 -- The calls on character sets: 01, "Character sets". Assumes nothing.
 use Prim.Native.Nat.{ℕ, suc}
 use mathlib.Core.Bool.{Bool, true, false, cond}
-use mathlib.Core.List.{List, [], _∷_}
+use mathlib.Core.List.{List, [], _∷_, _++_}
 use lib.ListN.{length}
 use Rattle.strlib.specs.Pointer.{storeFits, goodIn, textOf, readable}
 use Rattle.strlib.specs.Refusal.{Outcome, refused, gives, first, outcome, ruled, Sought, nowhere, at}
@@ -32,7 +32,7 @@ tablesRule on block mask = ruled (blockRefusal block mask) tt (turnedAll on mask
 -- the store, the block and the mask; the string's pointer; its characters
 abbrev pub setChecks : List ℕ → StrPtr → List ℕ → ℕ → List (ℕ × Bool)
 setChecks s string block mask =
-    (3, storeFits s) ∷ (3, blockFits block) ∷ (3, maskFits mask) ∷ (1, goodIn (length s) string) ∷ (2, readable s string) ∷ []
+    (3, storeFits s) ∷ blockChecks block mask ++ ((1, goodIn (length s) string) ∷ (2, readable s string) ∷ [])
 
 -- the number of the first that fails, 0 for none
 unfoldable pub setRefusal : List ℕ → StrPtr → List ℕ → ℕ → ℕ

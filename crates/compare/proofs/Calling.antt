@@ -1,28 +1,62 @@
 -- Laws of the call: its checks in turn, and its two answers. Assumes nothing.
-use mathlib.Core.Path.{_≡_, refl, sym, ap, _∙_}
+use mathlib.Core.Path.{_≡_, refl, sym, _∙_}
 use mathlib.Core.Bool.{Bool, true, false, cond}
 use mathlib.Core.List.{List}
 use Prim.Native.Nat.{ℕ, _+_, _<_}
 use native.Mathlib.Omega.{arith}
-use lib.Dec.{ltb, eqb}
+use lib.Dec.{leb, ltb}
 use lib.IntN.{ℤ, pos}
 use lib.ListN.{length, getD}
 use lib.Signed.{ltZ}
 use borrow.Author.Needs.{needs}
 use borrow.Author.Tests.{leb-true}
-use Rattle.strlib.proofs.Refusing.{inTurn, first-is, Passed, passed, outcome-no, outcome-yes}
-use Rattle.strlib.specs.Pointer.{textOf}
-use Rattle.strlib.specs.Refusal.{refused, gives}
+use Rattle.strlib.proofs.Refusing.{first-is, passed, outcome-no, outcome-yes}
+use Rattle.strlib.specs.Pointer.{storeFits, goodIn, textOf, readable}
+use Rattle.strlib.specs.Refusal.{refused, gives, also}
 use Rattle.strlib.specs.declared.StrPtr.{StrPtr}
 use Rattle.compare.specs.Order.{orderZ, orderN, signOf}
 use Rattle.compare.specs.Compare.{holds, lengthDecides, translates, translated, orderAt, pairs, unequalFrom, decided, decision, comparison, compareChecks, compareRefusal, compareRule}
-use Rattle.compare.specs.declared.Comparison.{Comparison}
 use Rattle.compare.specs.declared.Decision.{Decision}
 
-pub compare-checked : (s : List ℕ) (a b : StrPtr) (code style : ℕ) (t : ℤ) (k : ℕ) → k ≡ inTurn 0 (compareChecks s a b code style t)
-    → k ≡ compareRefusal s a b code style t
-unfolding compareRefusal
-compare-checked s a b code style t k e = first-is (compareChecks s a b code style t) refl k e
+-- t′ is what the machine reads back from the bits of t
+pub translation-checked : (t t′ : ℤ) (b : Bool) (k r : ℕ) → b ≡ translates t′ → t′ ≡ t → r ≡ also k 3 b → r ≡ also k 3 (translates t)
+translation-checked t t′ b k r eb et e = e ∙ rw (eb, et)
+
+module _ (s : List ℕ) (a b : StrPtr) (code style : ℕ) (t : ℤ) where
+  pub compare-checked : (found₁ : ℕ) → found₁ ≡ also 0 3 (storeFits s) → (found₂ : ℕ) → found₂ ≡ also found₁ 3 (leb code 5)
+      → (found₃ : ℕ) → found₃ ≡ also found₂ 3 (leb style 2) → (t′ : ℤ) → t′ ≡ t → (found₄ : ℕ) → found₄ ≡ also found₃ 3 (translates t′)
+      → (found₅ : ℕ) → found₅ ≡ also found₄ 1 (goodIn (length s) a) → (found₆ : ℕ) → found₆ ≡ also found₅ 1 (goodIn (length s) b)
+      → (found₇ : ℕ) → found₇ ≡ also found₆ 2 (readable s a) → (found₈ : ℕ) → found₈ ≡ also found₇ 2 (readable s b)
+      → found₈ ≡ compareRefusal s a b code style t
+  unfolding compareRefusal
+  compare-checked found₁ e₁ found₂ e₂ found₃ e₃ t′ et found₄ e₄ found₅ e₅ found₆ e₆ found₇ e₇ found₈ e₈ =
+      first-is (compareChecks s a b code style t) refl found₈ (rw (e₈, e₇, e₆, e₅, e₄, et, e₃, e₂, e₁))
+
+  -- the checks by their names, where all are passed
+  pub record ComparePassed : Type 0 where
+    pub fits : storeFits s ≡ true
+    pub coded : leb code 5 ≡ true
+    pub styled : leb style 2 ≡ true
+    pub translating : translates t ≡ true
+    pub good-a : goodIn (length s) a ≡ true
+    pub good-b : goodIn (length s) b ≡ true
+    pub read-a : readable s a ≡ true
+    pub read-b : readable s b ≡ true
+
+  pub compare-passed : compareRefusal s a b code style t ≡ 0 → ComparePassed
+  unfolding compareRefusal
+  compare-passed e =
+      let ok = passed (compareChecks s a b code style t) refl e in
+      record {
+        fits = ok .0;
+        coded = ok .1 .0;
+        styled = ok .1 .1 .0;
+        translating = ok .1 .1 .1 .0;
+        good-a = ok .1 .1 .1 .1 .0;
+        good-b = ok .1 .1 .1 .1 .1 .0;
+        read-a = ok .1 .1 .1 .1 .1 .1 .0;
+        read-b = ok .1 .1 .1 .1 .1 .1 .1 .0;
+      }
 
 -- an order is one of three
 three : (a b : Bool) → cond a 0 (cond b 2 1) < 3
@@ -61,15 +95,11 @@ module _ (s : List ℕ) (a b : StrPtr) (code style : ℕ) (t t′ : ℤ) (k : �
   unfolding compareRule
   compare-refused h = outcome-no k (compareRefusal s a b code style t′) same (comparison (textOf s a) (textOf s b) code style t′) h
 
-  ok : k ≡ 0 → Passed (compareChecks s a b code style t)
-  unfolding compareRefusal
-  ok z = passed (compareChecks s a b code style t) refl (sym e ∙ z)
-
   pub compare-translates : k ≡ 0 → translates t ≡ true
-  compare-translates z = ok z .1 .1 .1 .0
+  compare-translates z = compare-passed s a b code style t (sym e ∙ z) .translating
 
   pub compare-code : k ≡ 0 → code < 6
-  compare-code z = omega (arith, leb-true code 5 (ok z .1 .0))
+  compare-code z = omega (arith, leb-true code 5 (compare-passed s a b code style t (sym e ∙ z) .coded))
 
   -- sg is what the machine reads back from the bits of sg′
   pub compare-answer : (x y : List ℕ) (d : Decision) (mark : Bool) (sg sg′ : ℤ) → k ≡ 0 → x ≡ textOf s a → y ≡ textOf s b → d ≡ decision x y style t
@@ -80,4 +110,4 @@ module _ (s : List ℕ) (a b : StrPtr) (code style : ℕ) (t t′ : ℤ) (k : �
       outcome-yes k (compareRefusal s a b code style t′) same (record { yes = mark; sign = sg; split = d .split })
       (comparison (textOf s a) (textOf s b) code style t′) z (rw (eh, er, es, ed, et, ex, ey))
 
-pub ruleset compare-laws = (needs, decision-order, compare-refused, compare-translates, compare-code, compare-answer)
+pub ruleset compare-laws = (needs, translation-checked, compare-checked, decision-order, compare-refused, compare-translates, compare-code, compare-answer)

@@ -1,7 +1,7 @@
 -- Laws of what decides a comparison: the loop leaves off at the first unequal pair, since what is left to look at decides as the whole
 -- does. Assumes nothing.
-use mathlib.Core.Path.{_≡_, refl, sym, ap, _∙_}
-use mathlib.Core.Bool.{Bool, true, false, cond, not, _&&_}
+use mathlib.Core.Path.{_≡_, refl, sym, _∙_}
+use mathlib.Core.Bool.{Bool, true, false, cond}
 use mathlib.Core.List.{List, [], _∷_}
 use Prim.Native.Nat.{ℕ, zero, suc, _+_, _-_, _≤_, _<_, _*_, _^_, min, max}
 use native.Mathlib.Nat.{not-suc-le-zero, le-of-suc-le-suc, zero-add}
@@ -10,15 +10,14 @@ use native.Mathlib.Omega.{arith}
 use lib.Dec.{eqb, ltb}
 use lib.IntN.{ℤ, pos, _+ℤ_}
 use lib.ListN.{length, getD, List·getD-eq-default}
-use lib.Signed.{ltZ}
 use mir.Syntax.{w64}
 use mir.Val.{Fits}
 use borrow.Author.Count.{below-more}
 use borrow.Author.Needs.{needs}
 use borrow.Author.Tests.{ltb-true, ltb-false, eqb-true, eqb-false, eq-eqb, ne-eqb, lt-ltb, le-ltb}
+use Rattle.strlib.proofs.Refusing.{bool-case}
 use Rattle.compare.specs.Order.{orderZ, orderN}
 use Rattle.compare.specs.Compare.{pairs, lengthDecides, translated, orderAt, unequalFrom, FirstUnequal, decided, decision}
-use Rattle.compare.specs.declared.Decision.{Decision}
 
 getD-any : (l : List ℕ) (i d e : ℕ) → i < length l → getD l i d ≡ getD l i e
 getD-any [] i d e h = absurd (not-suc-le-zero h)
@@ -33,28 +32,21 @@ padded-past l i d h = sym (List·getD-eq-default l d h)
 
 -- ---- how many pairs
 
-pick-max : (m n : ℕ) → cond (ltb m n) n m ≡ max m n
-pick-max m n = go (ltb m n) refl
-  where
-    go : (b : Bool) → ltb m n ≡ b → cond b n m ≡ max m n
-    go true e = omega (arith, ltb-true m n e)
-    go false e = omega (arith, ltb-false m n e)
+pick-is : (m n a b r : ℕ) → (m < n → a ≡ r) → (n ≤ m → b ≡ r) → cond (ltb m n) a b ≡ r
+pick-is m n a b r f g = bool-case (ltb m n) (λ e. rw e (f (ltb-true m n e))) (λ e. rw e (g (ltb-false m n e)))
 
-pick-min : (m n : ℕ) → cond (ltb m n) m n ≡ min m n
-pick-min m n = go (ltb m n) refl
-  where
-    go : (b : Bool) → ltb m n ≡ b → cond b m n ≡ min m n
-    go true e = omega (arith, ltb-true m n e)
-    go false e = omega (arith, ltb-false m n e)
+pub order-lengths : (m n q r : ℕ) → q ≡ cond (ltb n m) 2 1 → r ≡ cond (ltb m n) 0 q → r ≡ orderN m n
+unfolding orderN
+order-lengths m n q r e f = f ∙ rw e
 
 module _ (style m n r : ℕ) where
   pub pairs-padded : style ≡ 0 → r ≡ cond (ltb m n) n m → r ≡ pairs style m n
   unfolding pairs
-  pairs-padded e h = simp (eq-eqb style 0 e) (h ∙ pick-max m n)
+  pairs-padded e h = simp (eq-eqb style 0 e) (h ∙ pick-is m n n m (max m n) (λ l. omega arith) (λ l. omega arith))
 
   pub pairs-shorter : (style ≡ 0 → ⊥) → r ≡ cond (ltb m n) m n → r ≡ pairs style m n
   unfolding pairs
-  pairs-shorter e h = simp (ne-eqb style 0 e) (h ∙ pick-min m n)
+  pairs-shorter e h = simp (ne-eqb style 0 e) (h ∙ pick-is m n m n (min m n) (λ l. omega arith) (λ l. omega arith))
 
 pairs-le : (style m n k : ℕ) → k ≡ pairs style m n → k ≤ m + n
 unfolding pairs
@@ -131,4 +123,4 @@ module _
     by-nothing b h eb hb = rw (le-ltb d n h, ← eb, hb) at by
 
 pub ruleset deciding-laws =
-    (needs, padded-in, padded-past, pairs-padded, pairs-shorter, pairs-fits, order-is, unequal-step, unequal-stop, unequal-end, by-pair, by-length, by-nothing)
+    (needs, padded-in, padded-past, order-lengths, pairs-padded, pairs-shorter, pairs-fits, order-is, unequal-step, unequal-stop, unequal-end, by-pair, by-length, by-nothing)

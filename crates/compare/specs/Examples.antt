@@ -1,6 +1,6 @@
 -- The manual's translated comparison, and splits and sums at the edges. Assumes nothing.
 use mathlib.Core.Path.{_≡_, refl}
-use mathlib.Core.Bool.{true, false}
+use mathlib.Core.Bool.{true}
 use mathlib.Core.List.{[], _∷_}
 use lib.IntN.{pos, negsuc}
 use Rattle.strlib.specs.Quoted.{bytes}

@@ -173,22 +173,19 @@ module _ (s : List ℕ) (n : ℕ) (e : trimmed s ≡ trimmed (take n s)) where
   trim-end h = let z : n ≡ 0 = omega arith in let t : trimmed s ≡ trimmed (take 0 s) = rw z at e in omega arith
 
 -- nothing is left exactly where all is blank
-pub trimmed-none : (s : List ℕ) → trimmed s ≡ 0 → blanks s ≡ true
+trimmed-blanks : (s : List ℕ) → blanks s ≡ eqb (trimmed s) 0
 unfolding trimmed blanks all
-trimmed-none [] e = refl
-trimmed-none (x ∷ s) e = go (blanks (x ∷ s)) refl e
+trimmed-blanks [] = refl
+trimmed-blanks (x ∷ s) = go (blanks (x ∷ s))
   where
-    go : (b : Bool) → blanks (x ∷ s) ≡ b → cond b 0 (suc (trimmed s)) ≡ 0 → blanks (x ∷ s) ≡ true
-    go true f g = f
-    go false f g = absurd (omega arith)
+    go : (b : Bool) → b ≡ eqb (cond b 0 (suc (trimmed s))) 0
+    go true = refl
+    go false = sym (ne-eqb (suc (trimmed s)) 0 (λ e. omega arith))
+
+pub trimmed-none : (s : List ℕ) → trimmed s ≡ 0 → blanks s ≡ true
+trimmed-none s e = trimmed-blanks s ∙ eq-eqb (trimmed s) 0 e
 
 pub trimmed-some : (s : List ℕ) → (trimmed s ≡ 0 → ⊥) → blanks s ≡ false
-unfolding trimmed
-trimmed-some [] e = absurd (e refl)
-trimmed-some (x ∷ s) e = go (blanks (x ∷ s)) refl e
-  where
-    go : (b : Bool) → blanks (x ∷ s) ≡ b → (cond b 0 (suc (trimmed s)) ≡ 0 → ⊥) → blanks (x ∷ s) ≡ false
-    go true f g = absurd (g refl)
-    go false f g = f
+trimmed-some s e = trimmed-blanks s ∙ ne-eqb (trimmed s) 0 e
 
 pub ruleset trim-laws = (needs, trim-start, trim-step, trim-stop, trim-end)

@@ -1,19 +1,19 @@
 -- A pointer that a cut returns is good for the store it was cut from: once over all cuts, from the room that each part keeps within
 -- that of the whole. Assumes nothing.
-use mathlib.Core.Path.{_≡_, refl, sym, _∙_}
+use mathlib.Core.Path.{_≡_}
 use mathlib.Core.Bool.{true}
 use mathlib.Core.List.{List}
-use Prim.Native.Nat.{ℕ, _+_, _-_, _≤_}
+use Prim.Native.Nat.{ℕ, _+_, _-_}
 use native.Mathlib.Omega.{arith}
 use lib.ListN.{length}
-use Rattle.strlib.proofs.Refusing.{passed, outcome-gave}
+use Rattle.strlib.proofs.Refusing.{outcome-gave}
 use Rattle.strlib.proofs.Pointing.{good-is, good-part, good-sized, text-length}
 use Rattle.strlib.specs.Pointer.{goodIn, textOf}
 use Rattle.strlib.specs.Refusal.{gives}
 use Rattle.strlib.specs.declared.StrPtr.{StrPtr}
 use Rattle.cutting.proofs.Bounding.{trimmed-le}
-use Rattle.cutting.proofs.Making.{relative-is, counted-in, between-in}
-use Rattle.cutting.specs.Cutting.{trimmed, second, inBounds, cutOf, cutChecks, cutRefusal, cutRule}
+use Rattle.cutting.proofs.Making.{relative-is, counted-in, between-in, CutPassed, cut-passed}
+use Rattle.cutting.specs.Cutting.{trimmed, second, inBounds, cutOf, cutRefusal, cutRule}
 use Rattle.cutting.specs.declared.Cut.{Cut}
 use Rattle.cutting.specs.declared.Cut.the-variants.{Relative, Counted, Between, Trimmed}
 
@@ -36,8 +36,8 @@ part-good s p Trimmed g b =
     good-sized (length s) p (trimmed (textOf s p)) g (omega (arith, text-length s p g))
 
 pub cut-good : (s : List ℕ) (p : StrPtr) (c : Cut) (q : StrPtr) → cutRule s p c ≡ gives q → goodIn (length s) q ≡ true
-unfolding cutRule cutRefusal
+unfolding cutRule
 cut-good s p c q e =
     let o = outcome-gave (cutRefusal s p c) (cutOf s p c) q e in
-    let ok = passed (cutChecks s p c) refl (o .0) in
-    rw (← (o .1)) (part-good s p c (ok .1 .0) (ok .1 .1 .1 .0))
+    let ok : CutPassed s p c = cut-passed s p c (o .0) in
+    rw (← (o .1)) (part-good s p c (ok .good) (ok .bounds))

@@ -1,19 +1,19 @@
 -- Laws of the part that is cut out: within the bounds each difference is a number, and the arms of the code make the part of the
 -- definition. Assumes nothing.
-use mathlib.Core.Path.{_≡_, refl, sym, ap, _∙_}
-use mathlib.Core.Bool.{Bool, true, false, cond}
-use mathlib.Core.List.{List, [], _∷_}
-use Prim.Native.Nat.{ℕ, _+_, _-_, _≤_, _<_, _*_, _^_}
+use mathlib.Core.Path.{_≡_, refl, sym, _∙_}
+use mathlib.Core.Bool.{Bool, true}
+use mathlib.Core.List.{List}
+use Prim.Native.Nat.{ℕ, _+_, _-_, _≤_}
 use native.Mathlib.Omega.{arith}
 use lib.ListN.{length}
 use borrow.Author.Needs.{needs}
 use borrow.Author.Tests.{leb-true}
-use Rattle.strlib.proofs.Refusing.{also-true, inTurn, first-is, passed, outcome-no, outcome-yes}
-use Rattle.strlib.proofs.Pointing.{good-is}
-use Rattle.strlib.specs.Pointer.{pointer, sized, partOf, storeFits, textOf, readable}
+use Rattle.strlib.proofs.Refusing.{also-true, first-is, passed, outcome-no, outcome-yes}
+use Rattle.strlib.proofs.Pointing.{fits-is, good-is}
+use Rattle.strlib.specs.Pointer.{sized, partOf, storeFits, goodIn, textOf, readable}
 use Rattle.strlib.specs.Refusal.{refused, gives, also}
 use Rattle.strlib.specs.declared.StrPtr.{StrPtr}
-use Rattle.cutting.proofs.Bounding.{counted-is, between-is, trimmed-le}
+use Rattle.cutting.proofs.Bounding.{counted-is, between-is}
 use Rattle.cutting.specs.Cutting.{trimmed, second, inBounds, cutOf, cutReads, cutChecks, cutRefusal, cutRule}
 use Rattle.cutting.specs.Inner.{Cuttable, Inside}
 use Rattle.cutting.specs.declared.Cut.{Cut}
@@ -131,11 +131,27 @@ module _ (s : List ℕ) (p : StrPtr) (c : Cut) (k : ℕ) where
 
 pub ruleset reads-laws = (needs, reads-relative, reads-counted, reads-between, reads-trimmed)
 
-pub cut-checked : (s : List ℕ) (p : StrPtr) (c : Cut) (k : ℕ) → k ≡ inTurn 0 (cutChecks s p c) → k ≡ cutRefusal s p c
-unfolding cutRefusal
-cut-checked s p c k e = first-is (cutChecks s p c) refl k e
+module _ (s : List ℕ) (p : StrPtr) (c : Cut) where
+  pub cut-checked : (found₁ : ℕ) → found₁ ≡ also 0 3 (storeFits s) → (found₂ : ℕ) → found₂ ≡ also found₁ 1 (goodIn (length s) p)
+      → (found₃ : ℕ) → found₃ ≡ also found₂ 2 (cutReads s p c) → (b : Bool) → b ≡ inBounds p c → (found₄ : ℕ) → found₄ ≡ also found₃ 4 b
+      → found₄ ≡ cutRefusal s p c
+  unfolding cutRefusal
+  cut-checked found₁ e₁ found₂ e₂ found₃ e₃ b eb found₄ e₄ = first-is (cutChecks s p c) refl found₄ (rw (e₄, eb, e₃, e₂, e₁))
 
--- what the checks passed, and the two answers
+  -- the checks by their names, where all are passed
+  pub record CutPassed : Type 0 where
+    pub fits : storeFits s ≡ true
+    pub good : goodIn (length s) p ≡ true
+    pub reads : cutReads s p c ≡ true
+    pub bounds : inBounds p c ≡ true
+
+  pub cut-passed : cutRefusal s p c ≡ 0 → CutPassed
+  unfolding cutRefusal
+  cut-passed e =
+      let ok = passed (cutChecks s p c) refl e in
+      record { fits = ok .0; good = ok .1 .0; reads = ok .1 .1 .0; bounds = ok .1 .1 .1 .0 }
+
+-- the two answers
 module _ (s : List ℕ) (p : StrPtr) (c : Cut) (k : ℕ) (e : k ≡ cutRefusal s p c) where
   pub cut-refused : (k ≡ 0 → ⊥) → refused k ≡ cutRule s p c
   unfolding cutRule
@@ -146,11 +162,10 @@ module _ (s : List ℕ) (p : StrPtr) (c : Cut) (k : ℕ) (e : k ≡ cutRefusal s
   cut-gives r z h = outcome-yes k (cutRefusal s p c) e r (cutOf s p c) z h
 
   pub cut-ready : k ≡ 0 → Cuttable p c
-  unfolding cutRefusal storeFits
   cut-ready z =
-      let ok = passed (cutChecks s p c) refl (sym e ∙ z) in
-      let g = good-is (length s) p (ok .1 .0) in
-      let f = leb-true (length s) 65536 (ok .0) in
-      record { room = g .0; end = omega arith; bounds = ok .1 .1 .1 .0 }
+      let ok : CutPassed s p c = cut-passed s p c (sym e ∙ z) in
+      let g = good-is (length s) p (ok .good) in
+      let f = fits-is s (ok .fits) in
+      record { room = g .0; end = omega arith; bounds = ok .bounds }
 
-pub ruleset cut-call-laws = (needs, cut-refused, cut-gives, cut-ready)
+pub ruleset cut-call-laws = (needs, cut-checked, cut-refused, cut-gives, cut-ready)

@@ -15,7 +15,7 @@ use Rattle.strlib.specs.Pointer.{pointer, sized, partOf, goodIn, textOf}
 use Rattle.strlib.specs.declared.StrPtr.{StrPtr}
 use Rattle.cutting.proofs.Bounding.{trimmed-none, trimmed-some}
 use Rattle.cutting.proofs.Goodness.{part-good}
-use Rattle.cutting.specs.Cutting.{blanks, trimmed, countedIn, inBounds, cutOf}
+use Rattle.cutting.specs.Cutting.{trimmed, countedIn, inBounds, cutOf}
 use Rattle.cutting.specs.Inner.{Cuttable}
 use Rattle.cutting.specs.Part.{IsPart, whole, sliceCut, shown}
 use Rattle.cutting.specs.declared.Cut.{Cut}

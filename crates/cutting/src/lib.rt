@@ -59,7 +59,7 @@ fn part_of(string: StrPtr, skip: usize, length: usize, maximum: usize) -> StrPtr
     requires { ⌜ Inside string skip ⌝ }
     ensures { λ r. ⌜ r ≡ partOf string skip length maximum ⌝ }
 {
-    StrPtr::new(string.start + skip, length, maximum)
+    string.part(string.start + skip, length, maximum)
 }
 
 fn second_position(length: usize, pos2: usize) -> usize

@@ -12,7 +12,7 @@ use lib.IntN.{ℤ}
 use lib.ListN.{length, getD}
 use Rattle.number.proofs.Telling.{read-text}
 use Rattle.number.specs.Text.{numberOf}
-use Rattle.number.specs.Number.{readRule}
+use Rattle.number.specs.Number.{ofText, readRule}
 use Rattle.strlib.proofs.Refusing.{numbered, first-is, first-before, first-behind, passed, outcome-no, outcome-yes}
 use Rattle.strlib.proofs.Texts.{part-readable}
 use Rattle.strlib.specs.Pointer.{storeFits, characters}
@@ -21,7 +21,7 @@ use Rattle.strlib.specs.declared.StrPtr.{StrPtr}
 use Rattle.words.proofs.Wording.{word-no, words-good}
 use Rattle.words.specs.Words.{words, firstWords}
 use Rattle.desk.specs.declared.cue.Cue.{Cue}
-use Rattle.desk.specs.Cue.{formed, isSize, micWord, lspWord, gainWord, lineChecks, textChecks, matrixChecks, numberChecks, wordChecks, cueOf}
+use Rattle.desk.specs.Cue.{formed, isSize, micWord, lspWord, gainWord, lineChecks, matrixChecks, numberChecks, wordChecks, cueOf}
 use Rattle.desk.specs.Cue.{cueRefusal, cueRule}
 use Rattle.desk.specs.CueInner.{lineRefusal, inMatrix, inOrder}
 
@@ -64,7 +64,7 @@ stage cs ds h x y f on back = go (first cs) refl
         ap f (sym (outcome-no (suc k) (first cs) (sym e) x n)) ∙ on (suc k) ∙ outcome-no (suc k) (first (cs ++ ds)) (first-before cs ds (suc k) (sym e) n) y n
 
 abbrev read : List ℕ → Outcome ℤ
-read t = outcome (first (textChecks t)) (numberOf 10 t)
+read t = outcome (first (ofText 10 t)) (numberOf 10 t)
 
 order-is : (mics lsps : ℕ) (a b c : List ℕ)
     → inOrder mics lsps (read a) (read b) (read c) ≡ outcome (first (numberChecks mics lsps a b c)) (cueOf (numberOf 10 a) (numberOf 10 b) (numberOf 10 c))
@@ -74,9 +74,9 @@ order-is mics lsps a b c =
     let m : ℤ = numberOf 10 b in
     let g : ℤ = numberOf 10 c in
     let rest : List (ℕ × Bool) = matrixChecks mics lsps n m g in
-    stage (textChecks a) (textChecks b ++ (textChecks c ++ rest)) refl n (cueOf n m g) (λ o. inOrder mics lsps o (read b) (read c)) (λ k. refl)
-    (stage (textChecks b) (textChecks c ++ rest) refl m (cueOf n m g) (λ o. inOrder mics lsps (gives n) o (read c)) (λ k. refl)
-    (stage (textChecks c) rest refl g (cueOf n m g) (λ o. inOrder mics lsps (gives n) (gives m) o) (λ k. refl) refl))
+    stage (ofText 10 a) (ofText 10 b ++ (ofText 10 c ++ rest)) refl n (cueOf n m g) (λ o. inOrder mics lsps o (read b) (read c)) (λ k. refl)
+    (stage (ofText 10 b) (ofText 10 c ++ rest) refl m (cueOf n m g) (λ o. inOrder mics lsps (gives n) o (read c)) (λ k. refl)
+    (stage (ofText 10 c) rest refl g (cueOf n m g) (λ o. inOrder mics lsps (gives n) (gives m) o) (λ k. refl) refl))
 
 -- ---- the call
 

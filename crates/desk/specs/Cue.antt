@@ -6,8 +6,8 @@ use lib.Dec.{eqb, leb}
 use lib.IntN.{ℤ, pos, negsuc, natAbs}
 use lib.ListN.{length, getD}
 use lib.Signed.{leZ}
-use Rattle.number.specs.Limits.{inRange}
-use Rattle.number.specs.Text.{isNumber, numberOf}
+use Rattle.number.specs.Number.{ofText}
+use Rattle.number.specs.Text.{numberOf}
 use Rattle.strlib.specs.Pointer.{storeFits, characters}
 use Rattle.strlib.specs.Quoted.{bytes}
 use Rattle.strlib.specs.Refusal.{Outcome, refused, gives, first, outcome}
@@ -53,21 +53,20 @@ isIndex size z = leZ (pos 1) z && leZ z (pos size)
 unfoldable pub isGain : ℤ → Bool
 isGain z = leZ (negsuc 959) z && leZ z (pos 120)
 
--- the checks of a cue line, in their order: 3 and 2 as in every call, 11 of a line that is too long, and of its words
+-- the checks of a cue line, in their order: 3 and 2 as in every call, and 11 of a line that is too long
 abbrev pub lineChecks : List ℕ → ℕ → ℕ → List (ℕ × Bool)
 lineChecks line mics lsps =
     (3, storeFits line) ∷ (3, isSize 64 mics) ∷ (3, isSize 128 lsps) ∷ (2, characters line) ∷ (11, leb (length line) 80) ∷ []
 
--- then 7 or 8 of the numbers from left to right, then 12 of the numbers against the matrix
-abbrev pub textChecks : List ℕ → List (ℕ × Bool)
-textChecks t = (7, isNumber 10 t) ∷ (8, inRange (numberOf 10 t)) ∷ []
-
+-- 12 of the numbers against the matrix
 abbrev pub matrixChecks : ℕ → ℕ → ℤ → ℤ → ℤ → List (ℕ × Bool)
 matrixChecks mics lsps n m g = (12, isIndex mics n) ∷ (12, isIndex lsps m) ∷ (12, isGain g) ∷ []
 
+-- 7 or 8 of the numbers from left to right, then the matrix
 abbrev pub numberChecks : ℕ → ℕ → List ℕ → List ℕ → List ℕ → List (ℕ × Bool)
-numberChecks mics lsps a b c = textChecks a ++ (textChecks b ++ (textChecks c ++ matrixChecks mics lsps (numberOf 10 a) (numberOf 10 b) (numberOf 10 c)))
+numberChecks mics lsps a b c = ofText 10 a ++ (ofText 10 b ++ (ofText 10 c ++ matrixChecks mics lsps (numberOf 10 a) (numberOf 10 b) (numberOf 10 c)))
 
+-- first 11 of the words
 abbrev pub wordChecks : List ℕ → ℕ → ℕ → List (ℕ × Bool)
 wordChecks line mics lsps = (11, formed line) ∷ numberChecks mics lsps (micWord line) (lspWord line) (gainWord line)
 

@@ -8,40 +8,38 @@ use native.Mathlib.Numerals.{add-one}
 use native.Mathlib.Omega.{arith}
 use lib.Dec.{leb, ltb, eqb}
 use lib.IntN.{ℤ}
-use lib.ListN.{length, take, drop, getD, length-drop, drop-of-length-le}
-use lib.Seq.{drop-cons, take-all}
+use lib.ListN.{length, take, drop, getD, drop-of-length-le}
+use lib.Seq.{drop-cons}
 use mir.Syntax.{w64}
 use mir.Val.{Fits}
 use borrow.Author.Needs.{needs}
-use borrow.Author.Tests.{leb-true, ltb-true, le-leb, lt-leb, lt-ltb, eq-eqb, ne-eqb}
-use Rattle.strlib.proofs.Refusing.{and-both}
+use borrow.Author.Tests.{leb-true, ltb-true, le-leb, lt-leb, lt-ltb}
+use Rattle.strlib.proofs.Refusing.{bool-case, and-both}
 use Rattle.strlib.proofs.Pointing.{leb-same}
 use Rattle.strlib.specs.Pointer.{all}
 use Rattle.strlib.specs.Refusal.{Outcome, refused, gives, outcome}
+use Rattle.words.proofs.Ending.{rest-is, blanks-front}
+use Rattle.words.proofs.Wording.{blanks-le}
+use Rattle.words.specs.Ends.{blankCount, blanksEnd}
 use Rattle.number.proofs.Ranging.{base-is}
 use Rattle.number.proofs.Holding.{held-reads}
 use Rattle.number.specs.Limits.{isBase, inRange}
 use Rattle.number.specs.Text.{unblanked, minus, unsigned, isDigit, areDigits, isNumber, value, signed, numberOf}
 use Rattle.number.specs.Inner.{reads}
 
--- a slice from index i to its end
-pub rest-is : (s : List ℕ) (i : ℕ) → take (length s - i) (drop i s) ≡ drop i s
-rest-is s i = take-all (length s - i) (drop i s) (simp length-drop (omega arith))
-
 -- ---- blanks and the minus
 
-module _ (s : List ℕ) (i : ℕ) (e : unblanked s ≡ unblanked (drop i s)) where
-  pub blank-step : i < length s → getD s i 0 ≡ 32 → unblanked s ≡ unblanked (drop (i + 1) s)
-  unfolding unblanked
-  blank-step h k = e ∙ rw (add-one, drop-cons s i 0 h) (simp (eq-eqb (getD s i 0) 32 k))
+behind-blanks : (s : List ℕ) → drop (blankCount s) s ≡ unblanked s
+unfolding unblanked blankCount
+behind-blanks [] = refl
+behind-blanks (c ∷ cs) = bool-case (eqb c 32) (λ e. rw e (behind-blanks cs)) (λ e. rw e)
 
-  pub blank-stop : i < length s → (getD s i 0 ≡ 32 → ⊥) → take (length s - i) (drop i s) ≡ unblanked s
-  unfolding unblanked
-  blank-stop h k = rest-is s i ∙ sym (e ∙ rw (drop-cons s i 0 h) (simp (ne-eqb (getD s i 0) 32 k)))
+module _ (s : List ℕ) (n : ℕ) (e : n ≡ blanksEnd s 0) where
+  pub blanks-in : n ≤ length s
+  blanks-in = omega (arith, e ∙ blanks-front s, blanks-le s)
 
-  pub blank-end : length s ≤ i → take (length s - i) (drop i s) ≡ unblanked s
-  unfolding unblanked
-  blank-end h = rest-is s i ∙ sym (e ∙ rw (drop-of-length-le s h))
+  pub blanks-behind : take (length s - n) (drop n s) ≡ unblanked s
+  blanks-behind = rest-is s n ∙ rw (e, blanks-front s) (behind-blanks s)
 
 pub minus-none : (s : List ℕ) → length s ≡ 0 → false ≡ minus s
 unfolding minus
@@ -53,7 +51,7 @@ unfolding minus
 minus-first [] h = absurd (h refl)
 minus-first (c ∷ cs) h = refl
 
-pub ruleset blank-laws = (needs, blank-step, blank-stop, blank-end, minus-none, minus-first)
+pub ruleset blank-laws = (needs, blanks-in, blanks-behind, minus-none, minus-first)
 
 -- ---- one digit
 

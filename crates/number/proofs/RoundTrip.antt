@@ -1,14 +1,14 @@
 -- The round trip: the text written is put at the destination's start, so that the returned pointer names it, and it reads as the number.
 -- Assumes nothing.
-use mathlib.Core.Path.{_≡_, refl}
+use mathlib.Core.Path.{_≡_}
 use mathlib.Core.Bool.{true}
 use mathlib.Core.List.{List}
 use Prim.Native.Nat.{ℕ, suc, _+_, _≤_}
 use native.Mathlib.Omega.{arith}
-use lib.IntN.{ℤ, pos, negsuc}
+use lib.IntN.{ℤ, pos, negsuc, natAbs}
 use lib.ListN.{length}
-use borrow.Author.Tests.{leb-true, le-leb}
-use Rattle.strlib.proofs.Refusing.{Passed, passed, ruled-gave}
+use borrow.Author.Tests.{le-leb}
+use Rattle.strlib.proofs.Refusing.{ruled-gave}
 use Rattle.strlib.proofs.Pointing.{good-is, good-sized}
 use Rattle.strlib.proofs.Storing.{put-length, part-put}
 use Rattle.strlib.specs.Pointer.{sized, storeFits, goodIn, textOf, characters, readable, all}
@@ -17,11 +17,13 @@ use Rattle.strlib.specs.Store.{put}
 use Rattle.strlib.specs.declared.StrPtr.{StrPtr}
 use Rattle.number.proofs.Ranging.{range-mag}
 use Rattle.number.proofs.Counting.{digits-few}
+use Rattle.number.proofs.Writing.{written-under}
+use Rattle.number.proofs.Calling.{WritePassed, write-passed}
 use Rattle.number.proofs.ReadBack.{digits-say, plain-number, minus-number, are-characters}
 use Rattle.number.specs.Limits.{isBase, inRange}
 use Rattle.number.specs.Text.{isNumber, numberOf}
 use Rattle.number.specs.Written.{digits, sign, written}
-use Rattle.number.specs.Number.{readRefusal, readRule, writeChecks, writeRefusal, writeRule}
+use Rattle.number.specs.Number.{readRefusal, readRule, writeRefusal, writeRule}
 use Rattle.number.specs.RoundTrip.{RoundTrip}
 
 -- ---- texts
@@ -39,18 +41,15 @@ text-characters base (negsuc n) g r =
     are-characters base (digits base (suc n)) (suc n) (digits-say base g (suc n) (omega (arith, range-mag (negsuc n) r))) g
 
 room : (base : ℕ) (z : ℤ) → length (written base z) ≤ 37
-unfolding written sign
-room base (pos n) = omega (arith, digits-few base n)
-room base (negsuc n) = omega (arith, digits-few base (suc n))
+room base z = written-under base z 36 (digits-few base (natAbs z))
 
 -- ---- calls
 
-module _ (s : List ℕ) (p : StrPtr) (z : ℤ) (base : ℕ) (ok : Passed (writeChecks s p z base)) where
+module _ (s : List ℕ) (p : StrPtr) (z : ℤ) (base : ℕ) (ok : WritePassed s p z base) where
   fits : p .start + length (written base z) ≤ length s
   fits =
-      let g = good-is (length s) p (ok .1 .1 .0) in
-      let m = leb-true (length (written base z)) (p .maximum) (ok .1 .1 .1 .1 .0) in
-      omega arith
+      let g = good-is (length s) p (ok .before .good) in
+      omega (arith, ok .room)
 
   same : length (put s (p .start) (written base z)) ≡ length s
   same = put-length s (p .start) (written base z) fits
@@ -60,28 +59,29 @@ module _ (s : List ℕ) (p : StrPtr) (z : ℤ) (base : ℕ) (ok : Passed (writeC
   named = part-put s (p .start) (written base z) (omega (arith, fits))
 
   good : goodIn (length (put s (p .start) (written base z))) (sized p (length (written base z))) ≡ true
-  good = rw same (good-sized (length s) p (length (written base z)) (ok .1 .1 .0) (leb-true (length (written base z)) (p .maximum) (ok .1 .1 .1 .1 .0)))
+  good = rw same (good-sized (length s) p (length (written base z)) (ok .before .good) (ok .room))
 
   read-back : readRule (put s (p .start) (written base z)) (sized p (length (written base z))) base ≡ gives z
   unfolding readRule readRefusal storeFits readable outcome
   read-back =
-      let t = texts base z (ok .1 .0) (ok .1 .1 .1 .0) in
-      rw (good, named, same, ok .0, ok .1 .0, text-characters base z (ok .1 .0) (ok .1 .1 .1 .0), t .0, t .1, ok .1 .1 .1 .0)
+      let w = ok .before in
+      let t = texts base z (w .based) (w .ranged) in
+      rw (good, named, same, w .fits, w .based, text-characters base z (w .based) (w .ranged), t .0, t .1, w .ranged)
 
 returned : (s : List ℕ) (p : StrPtr) (z : ℤ) (base : ℕ) (q : StrPtr) → writeRule s p z base .0 ≡ gives q → readRule (writeRule s p z base .1) q base ≡ gives z
-unfolding writeRule writeRefusal
+unfolding writeRule
 returned s p z base q e =
     let g = ruled-gave (writeRefusal s p z base) (sized p (length (written base z))) q (put s (p .start) (written base z)) s e in
-    rw (g .1 .1, ← (g .1 .0)) (read-back s p z base (passed (writeChecks s p z base) refl (g .0)))
+    rw (g .1 .1, ← (g .1 .0)) (read-back s p z base (write-passed s p z base (g .0)))
 
 -- whatever pointer a write returned, the number is in the range and the pointer names its text
 pub write-gave : (s : List ℕ) (p : StrPtr) (z : ℤ) (base : ℕ) (q : StrPtr) → writeRule s p z base .0 ≡ gives q
     → (inRange z ≡ true) × (textOf (writeRule s p z base .1) q ≡ written base z)
-unfolding writeRule writeRefusal
+unfolding writeRule
 write-gave s p z base q e =
     let g = ruled-gave (writeRefusal s p z base) (sized p (length (written base z))) q (put s (p .start) (written base z)) s e in
-    let ok = passed (writeChecks s p z base) refl (g .0) in
-    (ok .1 .1 .1 .0, rw (g .1 .1, ← (g .1 .0)) (named s p z base ok))
+    let ok : WritePassed s p z base = write-passed s p z base (g .0) in
+    (ok .before .ranged, rw (g .1 .1, ← (g .1 .0)) (named s p z base ok))
 
 calls : (s : List ℕ) (p : StrPtr) (z : ℤ) (base : ℕ)
     → storeFits s ≡ true → isBase base ≡ true → goodIn (length s) p ≡ true → inRange z ≡ true → length (written base z) ≤ p .maximum

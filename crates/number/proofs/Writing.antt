@@ -1,6 +1,6 @@
 -- Laws of writing a text: the digits put so far and those of the quotient make up the whole. Assumes nothing.
 use mathlib.Core.Path.{_≡_, refl, _∙_}
-use mathlib.Core.Bool.{true, false, true≢false}
+use mathlib.Core.Bool.{true, false, cond}
 use mathlib.Core.List.{List, [], _∷_, _++_}
 use Prim.Native.Nat.{ℕ, suc, _+_, _-_, _/_, _%_, _≤_, _<_}
 use native.Mathlib.Nat.{mod-lt, div-le-self}
@@ -11,7 +11,7 @@ use lib.Signed.{ltZ}
 use mir.Syntax.{w64}
 use mir.Val.{Fits}
 use borrow.Author.Needs.{needs}
-use borrow.Author.Tests.{ltb-true}
+use borrow.Author.Tests.{le-ltb}
 use Rattle.strlib.proofs.Storing.{set-put, put-put, put-before}
 use Rattle.strlib.specs.Store.{put}
 use Rattle.number.proofs.Ranging.{base-is, range-mag, abs-mag}
@@ -71,26 +71,28 @@ pub ruleset put-laws =
 
 -- ---- the text
 
-sign-minus : (z : ℤ) → ltZ z (pos 0) ≡ true → sign z ≡ 45 ∷ []
+-- a minus by the machine's test
+pub sign-is : (z : ℤ) → sign z ≡ cond (ltZ z (pos 0)) (45 ∷ []) []
 unfolding sign
-sign-minus (pos n) t = absurd (omega (arith, ltb-true n 0 t))
-sign-minus (negsuc n) t = refl
+sign-is (pos n) = rw (le-ltb n 0 (omega arith))
+sign-is (negsuc n) = refl
 
-sign-none : (z : ℤ) → ltZ z (pos 0) ≡ false → sign z ≡ []
-unfolding sign
-sign-none (pos n) t = refl
-sign-none (negsuc n) t = absurd (true≢false t)
+-- a text is no longer than its digits and a sign
+pub written-under : (base : ℕ) (z : ℤ) (n : ℕ) → length (digits base (natAbs z)) ≤ n → length (written base z) ≤ suc n
+unfolding written sign
+written-under base (pos m) n h = omega arith
+written-under base (negsuc m) n h = omega arith
 
 -- z is what the machine reads back from the bits of z′
 
 module _ (base m count : ℕ) (z z′ : ℤ) (ez : z ≡ z′) (em : m ≡ natAbs z) where
   negative-is : ltZ z (pos 0) ≡ true → written base z′ ≡ (45 ∷ []) ++ digits base m
   unfolding written
-  negative-is t = rw (← ez, sign-minus z t, ← em)
+  negative-is t = rw (← ez, sign-is z, t, ← em)
 
   plain-is : ltZ z (pos 0) ≡ false → written base z′ ≡ digits base m
   unfolding written
-  plain-is t = rw (← ez, sign-none z t, ← em)
+  plain-is t = rw (← ez, sign-is z, t, ← em)
 
   pub text-countable : isBase base ≡ true → inRange z′ ≡ true → Countable base m
   text-countable g r =

@@ -6,16 +6,12 @@ use mathlib.Core.List.{List, [], _∷_}
 use lib.IntN.{ℤ}
 use lib.ListN.{length}
 use Rattle.strlib.specs.Refusal.{Outcome, first, outcome}
-use Rattle.strlib.specs.Pointer.{storeFits, goodIn, readable}
 use Rattle.strlib.specs.declared.StrPtr.{StrPtr}
 use Rattle.number.specs.Limits.{isBase, inRange}
 use Rattle.number.specs.Written.{digits, written}
+use Rattle.number.specs.Number.{beforeText, beforeDigits}
 
--- the checks of a reading that are made before its text is looked at
-abbrev pub beforeText : List ℕ → StrPtr → ℕ → List (ℕ × Bool)
-beforeText s p base = (3, storeFits s) ∷ (3, isBase base) ∷ (1, goodIn (length s) p) ∷ (2, readable s p) ∷ []
-
--- the refusal that they find, 0 for none
+-- the refusal that the checks before a text find, 0 for none
 unfoldable pub unreadable : List ℕ → StrPtr → ℕ → ℕ
 unreadable s p base = first (beforeText s p base)
 
@@ -23,11 +19,7 @@ unreadable s p base = first (beforeText s p base)
 unfoldable pub reads : Bool → ℤ → Outcome ℤ
 reads formed z = outcome (first ((7, formed) ∷ (8, inRange z) ∷ [])) z
 
--- the checks of a writing that are made before its digits are counted
-abbrev pub beforeDigits : List ℕ → StrPtr → ℤ → ℕ → List (ℕ × Bool)
-beforeDigits s p z base = (3, storeFits s) ∷ (3, isBase base) ∷ (1, goodIn (length s) p) ∷ (8, inRange z) ∷ []
-
--- the refusal that they find, 0 for none
+-- the refusal that the checks before the digits find, 0 for none
 unfoldable pub unwritable : List ℕ → StrPtr → ℤ → ℕ → ℕ
 unwritable s p z base = first (beforeDigits s p z base)
 

@@ -1,7 +1,7 @@
 -- The two calls: 01, "Numbers" and "Refusal numbers". Assumes nothing.
 use Prim.Native.Nat.{ℕ}
 use mathlib.Core.Bool.{Bool}
-use mathlib.Core.List.{List, [], _∷_}
+use mathlib.Core.List.{List, [], _∷_, _++_}
 use lib.Dec.{leb}
 use lib.IntN.{ℤ}
 use lib.ListN.{length}
@@ -22,14 +22,15 @@ numberAnswered (Refused n) = refused n
 
 -- ---- reading
 
--- the checks of a reading, in their order
+-- the checks of a reading, in their order: those that are made before its text is looked at, then those of the text
+abbrev pub beforeText : List ℕ → StrPtr → ℕ → List (ℕ × Bool)
+beforeText s p base = (3, storeFits s) ∷ (3, isBase base) ∷ (1, goodIn (length s) p) ∷ (2, readable s p) ∷ []
+
+abbrev pub ofText : ℕ → List ℕ → List (ℕ × Bool)
+ofText base t = (7, isNumber base t) ∷ (8, inRange (numberOf base t)) ∷ []
+
 abbrev pub readChecks : List ℕ → StrPtr → ℕ → List (ℕ × Bool)
-readChecks s p base =
-    (3, storeFits s) ∷ (3, isBase base)
-    ∷ (1, goodIn (length s) p)
-    ∷ (2, readable s p)
-    ∷ (7, isNumber base (textOf s p))
-    ∷ (8, inRange (numberOf base (textOf s p))) ∷ []
+readChecks s p base = beforeText s p base ++ ofText base (textOf s p)
 
 -- its refusal, 0 for none
 unfoldable pub readRefusal : List ℕ → StrPtr → ℕ → ℕ
@@ -41,13 +42,16 @@ readRule s p base = outcome (readRefusal s p base) (numberOf base (textOf s p))
 
 -- ---- writing
 
--- the checks of a writing, in their order: the destination is not read, and 6 goes by its maximum
+-- the checks of a writing, in their order: those that are made before its digits are counted, then that of the room. The destination is
+-- not read, and 6 goes by its maximum
+abbrev pub beforeDigits : List ℕ → StrPtr → ℤ → ℕ → List (ℕ × Bool)
+beforeDigits s p z base = (3, storeFits s) ∷ (3, isBase base) ∷ (1, goodIn (length s) p) ∷ (8, inRange z) ∷ []
+
+abbrev pub ofRoom : StrPtr → ℤ → ℕ → List (ℕ × Bool)
+ofRoom p z base = (6, leb (length (written base z)) (p .maximum)) ∷ []
+
 abbrev pub writeChecks : List ℕ → StrPtr → ℤ → ℕ → List (ℕ × Bool)
-writeChecks s p z base =
-    (3, storeFits s) ∷ (3, isBase base)
-    ∷ (1, goodIn (length s) p)
-    ∷ (8, inRange z)
-    ∷ (6, leb (length (written base z)) (p .maximum)) ∷ []
+writeChecks s p z base = beforeDigits s p z base ++ ofRoom p z base
 
 -- its refusal, 0 for none
 unfoldable pub writeRefusal : List ℕ → StrPtr → ℤ → ℕ → ℕ

@@ -17,14 +17,8 @@ const HELD: usize = 68719476736;
 fn unblanked(text: &[u8]) -> &[u8]
     ensures { λ r. ⌜ now r ≡ unblanked (now (text .entry)) ⌝ }
 {
-    let mut i = 0;
-    while i < text.len() {
-        if text[i] != b' ' {
-            return &text[i..];
-        }
-        i += 1;
-    }
-    &text[i..]
+    let n = words::blanks_end(text, 0);
+    &text[n..]
 }
 
 fn has_minus(text: &[u8]) -> bool

@@ -8,7 +8,7 @@ use native.Mathlib.Nat.{zero-add}
 use native.Mathlib.Omega.{arith}
 use lib.Dec.{leb}
 use lib.ListN.{length, take, drop, getD, length-take, length-drop}
-use lib.Seq.{drop-drop, take-all, getD-take}
+use lib.Seq.{drop-drop, getD-take}
 use borrow.Author.Needs.{needs}
 use borrow.Author.Tests.{le-leb, lt-leb}
 use Rattle.strlib.proofs.Pointing.{leb-same}
@@ -16,6 +16,7 @@ use Rattle.strlib.proofs.Listing.{prefix-cons, prefix-end}
 use Rattle.strlib.proofs.Texts.{listed-text}
 use Rattle.strlib.specs.Pointer.{textOf, texts}
 use Rattle.strlib.specs.declared.StrPtr.{StrPtr}
+use Rattle.words.proofs.Ending.{rest-is}
 use Rattle.search.specs.Search.{isPrefix, further, closed, lengthOf, Result, nothing, found, onward, plainSearch}
 use Rattle.search.specs.Inner.{placed}
 
@@ -94,9 +95,9 @@ module _ (ss : List (List ℕ)) (h : List ℕ) where
   passed-none = rw (le-leb 0 (length h) (omega arith)) (moved-none (plainSearch ss h))
 
   module _ (p : ℕ) (o : Passed ss h p) where
-    pub passed-all : (n pos1 pos2 : ℕ) → n ≡ 0 → length h < p → placed n pos1 pos2 ≡ plainSearch ss h
+    pub passed-all : (n k pos1 pos2 : ℕ) → n ≡ k → k ≡ 0 → length h < p → placed n pos1 pos2 ≡ plainSearch ss h
     unfolding Passed placed
-    passed-all n pos1 pos2 z m = rw z (sym (o ∙ rw (lt-leb p (length h) m)))
+    passed-all n k pos1 pos2 e z m = rw (e, z) (sym (o ∙ rw (lt-leb p (length h) m)))
 
     module _ (m : p ≤ length h) where
       here : plainSearch ss h ≡ moved p (plainSearch ss (drop p h))
@@ -115,18 +116,15 @@ module _ (ss : List (List ℕ)) (h : List ℕ) where
 -- ---- the two together: w is the host from the position on
 
 module _ (s : List ℕ) (l : List StrPtr) (c : ℕ) (h : List ℕ) (p : ℕ) (o : Passed (texts s (take c l)) h p) (m : p ≤ length h) where
-  whole-rest : take (length h - p) (drop p h) ≡ drop p h
-  whole-rest = take-all (length h - p) (drop p h) (simp length-drop (omega arith))
-
   module _ (k : ℕ) (t : Tried s l c (take (length h - p) (drop p h)) k) where
     pub find-on : c ≤ k → Passed (texts s (take c l)) h (p + 1)
-    find-on z = passed-more (texts s (take c l)) h p o m (rw whole-rest at (tried-all s l c (take (length h - p) (drop p h)) k t z))
+    find-on z = passed-more (texts s (take c l)) h p o m (rw (rest-is h p) at (tried-all s l c (take (length h - p) (drop p h)) k t z))
 
     pub find-hit : (d : StrPtr) (x : List ℕ) (b : Bool) (n pos2 : ℕ) → x ≡ textOf s (getD l k d) → b ≡ isPrefix x (take (length h - p) (drop p h)) → b ≡ true
         → k < c → length l ≡ 32 → c ≤ 32 → n ≡ k + 1 → pos2 ≡ p + length x + 1 → placed n (p + 1) pos2 ≡ plainSearch (texts s (take c l)) h
     unfolding placed
     find-hit d x b n pos2 q r f i j z u v =
-        let e : closed (texts s (take c l)) (drop p h) ≡ suc k = rw whole-rest at (tried-hit s l c (take (length h - p) (drop p h)) k t d x b q r i j z f) in
+        let e : closed (texts s (take c l)) (drop p h) ≡ suc k = rw (rest-is h p) at (tried-hit s l c (take (length h - p) (drop p h)) k t d x b q r i j z f) in
         let a : k < length (take c l) = simp length-take (omega arith) in
         let g : getD (texts s (take c l)) k [] ≡ x = listed-text s (take c l) k d a ∙ rw (getD-take c l k d i, q) in
         let y : p + suc (length x) ≡ pos2 = omega arith in

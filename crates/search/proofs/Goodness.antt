@@ -22,7 +22,7 @@ use Rattle.search.specs.Whole.{Parts, Halves}
 use Rattle.search.specs.declared.Match.{Match}
 use Rattle.search.specs.declared.Split.{Split}
 use Rattle.search.proofs.Meaning.{search-law}
-use Rattle.search.proofs.Answering.{checked, within}
+use Rattle.search.proofs.Answering.{search-passed, within, within-first, within-last}
 
 -- ---- parts of a string
 
@@ -66,7 +66,7 @@ module _ (s : List ℕ) (host : StrPtr) (l : List StrPtr) (c : ℕ) where
 
   module _ {j pos1 pos2 : ℕ} (e : FoundAt j pos1 pos2) where
     host-good : goodIn (length s) host ≡ true
-    host-good = checked s host l c 0 (sym (outcome-gave _ _ _ e .0)) refl .1 .1 .0
+    host-good = search-passed s host l c (outcome-gave _ _ _ e .0) .host-good
 
     -- the match's characters, by the search's law
     match-text : textOf s (partOf host (pos1 - 1) (pos2 - pos1) (pos2 - pos1)) ≡ stringOf strings j
@@ -97,14 +97,10 @@ module _ (s : List ℕ) (host : StrPtr) (l : List StrPtr) (c : ℕ) where
         }
 
     first-half : Halves s host (splitOf host j pos1)
-    first-half =
-        let w : Within host pos1 pos2 = within s host l c j pos1 pos2 e in
-        halves s host j pos1 host-good (record { from = w .from; order = omega arith; to = omega arith; room = w .room; end = w .end })
+    first-half = halves s host j pos1 host-good (within-first host pos1 pos2 (within s host l c j pos1 pos2 e))
 
     last-half : Halves s host (splitOf host j pos2)
-    last-half =
-        let w : Within host pos1 pos2 = within s host l c j pos1 pos2 e in
-        halves s host j pos2 host-good (record { from = omega arith; order = omega arith; to = w .to; room = w .room; end = w .end })
+    last-half = halves s host j pos2 host-good (within-last host pos1 pos2 (within s host l c j pos1 pos2 e))
 
   -- ---- the answers of the calls
 

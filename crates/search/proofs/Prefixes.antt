@@ -1,16 +1,14 @@
--- Laws of prefixes, by going through both lists, and of the test for one, by what is left to compare. Assumes nothing.
-use Prim.Native.Nat.{ℕ, _+_, _-_, _≤_, _<_}
-use mathlib.Core.Path.{_≡_, refl, sym, _∙_}
-use mathlib.Core.Bool.{true, false, false≢true}
+-- Laws of prefixes, by going through both lists. Assumes nothing.
+use Prim.Native.Nat.{ℕ, _≤_}
+use mathlib.Core.Path.{_≡_, refl, sym}
+use mathlib.Core.Bool.{true, false≢true}
 use mathlib.Core.List.{List, [], _∷_}
-use native.Mathlib.Numerals.{add-one}
 use native.Mathlib.Omega.{arith}
-use lib.Dec.{eqb}
-use lib.ListN.{length, take, drop, getD, drop-of-length-le}
-use lib.Seq.{drop-cons}
-use borrow.Author.Needs.{needs}
-use borrow.Author.Tests.{eqb-true, eq-eqb, ne-eqb}
-use Rattle.strlib.proofs.Refusing.{and-both}
+use lib.Dec.{eqb, leb, leb·zero, leb·suc-zero, leb·suc-suc}
+use lib.ListN.{length, take}
+use borrow.Author.Tests.{eqb-true, eq-eqb}
+use Rattle.strlib.proofs.Refusing.{bool-case, and-both}
+use Rattle.words.specs.Alike.{common}
 use Rattle.search.specs.Search.{isPrefix}
 
 -- ---- a prefix is what stands at the front
@@ -35,19 +33,16 @@ prefix-length [] h e = omega arith
 prefix-length (x ∷ s) [] e = absurd (false≢true e)
 prefix-length (x ∷ s) (y ∷ h) e = omega (arith, prefix-length s h (and-both (eqb x y) (isPrefix s h) e .1))
 
--- ---- the test, where the first i characters are equal
+-- ---- the test, by how far the two are alike
 
-module _ (s h : List ℕ) (i : ℕ) (e : isPrefix s h ≡ isPrefix (drop i s) (drop i h)) where
-  pub prefix-over : i < length s → length h ≤ i → false ≡ isPrefix s h
-  prefix-over k m = sym (e ∙ rw (drop-cons s i 0 k, drop-of-length-le h m))
+pub prefix-common : (s h : List ℕ) → isPrefix s h ≡ leb (length s) (common s h)
+unfolding common
+prefix-common [] h = sym (leb·zero 0)
+prefix-common (x ∷ s) [] = sym (leb·suc-zero (length s))
+prefix-common (x ∷ s) (y ∷ h) =
+    bool-case (eqb x y)
+    (λ e. rw (e, leb·suc-suc (length s) (common s h)) (prefix-common s h))
+    (λ e. rw (e, leb·suc-zero (length s)))
 
-  pub prefix-differs : i < length s → i < length h → (getD s i 0 ≡ getD h i 0 → ⊥) → false ≡ isPrefix s h
-  prefix-differs k m d = sym (e ∙ rw (drop-cons s i 0 k, drop-cons h i 0 m, ne-eqb (getD s i 0) (getD h i 0) d))
-
-  pub prefix-step : i < length s → i < length h → getD s i 0 ≡ getD h i 0 → isPrefix s h ≡ isPrefix (drop (i + 1) s) (drop (i + 1) h)
-  prefix-step k m d = e ∙ rw (drop-cons s i 0 k, drop-cons h i 0 m, eq-eqb (getD s i 0) (getD h i 0) d, add-one)
-
-  pub prefix-end : length s ≤ i → true ≡ isPrefix s h
-  prefix-end m = sym (e ∙ rw (drop-of-length-le s m))
-
-pub ruleset prefix-laws = (needs, prefix-over, prefix-differs, prefix-step, prefix-end)
+pub prefix-is : (s h : List ℕ) (n : ℕ) → n ≡ common s h → leb (length s) n ≡ isPrefix s h
+prefix-is s h n e = rw e (sym (prefix-common s h))

@@ -27,17 +27,7 @@ pub enum Finding {
 fn starts_with(text: &[u8], string: &[u8]) -> bool
     ensures { λ r. ⌜ r ≡ isPrefix (now (string .entry)) (now (text .entry)) ⌝ }
 {
-    let mut i = 0;
-    while i < string.len() {
-        if text.len() <= i {
-            return false;
-        }
-        if string[i] != text[i] {
-            return false;
-        }
-        i += 1;
-    }
-    true
+    string.len() <= words::alike(string, text)
 }
 
 // The smallest position, then the smallest number.

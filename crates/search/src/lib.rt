@@ -77,7 +77,7 @@ fn part_of(host: StrPtr, skip: usize, length: usize, maximum: usize) -> StrPtr
     requires { ⌜ host .start + skip ≤ 65536 ⌝ }
     ensures { λ r. ⌜ r ≡ partOf host skip length maximum ⌝ }
 {
-    StrPtr::new(host.start + skip, length, maximum)
+    host.part(host.start + skip, length, maximum)
 }
 
 fn parts_of(host: StrPtr, number: usize, pos1: usize, pos2: usize) -> Match

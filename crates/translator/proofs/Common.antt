@@ -1,16 +1,13 @@
--- Laws of how far texts are alike: counting it, the numbers of all strings, and what a number tells of a prefix. Assumes nothing.
+-- Laws of how far the listed strings are alike: the numbers of all strings, and what a number tells of a prefix. Assumes nothing.
 use mathlib.Core.Path.{_≡_, sym, ap, _∙_}
 use mathlib.Core.Bool.{_&&_, and-false}
 use mathlib.Core.List.{List, [], _∷_}
 use Prim.Native.Nat.{ℕ, zero, suc, _+_, _-_, _*_, _≤_, _<_}
-use native.Mathlib.Nat.{zero-add}
-use native.Mathlib.Numerals.{add-one}
 use native.Mathlib.Omega.{arith}
 use borrow.Author.Needs.{needs}
-use borrow.Author.Tests.{eq-eqb, ne-eqb}
 use lib.Dec.{eqb, leb, leb·zero, leb·suc-zero, leb·suc-suc}
-use lib.ListN.{length, take, drop, getD, set, length-take, length-drop, drop-of-length-le}
-use lib.Seq.{drop-cons, getD-take, getD-drop, length-take-le}
+use lib.ListN.{length, take, drop, getD, set, length-take, length-drop}
+use lib.Seq.{getD-take, getD-drop, length-take-le}
 use Rattle.strlib.proofs.Pointing.{either}
 use Rattle.strlib.proofs.Refusing.{bool-case}
 use Rattle.strlib.specs.Pointer.{textOf}
@@ -18,35 +15,10 @@ use Rattle.strlib.specs.declared.StrPtr.{StrPtr}
 use Rattle.search.specs.Search.{isPrefix}
 use Rattle.states.proofs.Prefixes.{eqb-sym}
 use Rattle.states.proofs.Writing.{wrote-none, wrote-more}
+use Rattle.words.specs.Alike.{common}
 use Rattle.translator.proofs.Listing.{listed-length, listed-at, listed-take}
 use Rattle.translator.specs.Translate.{listed}
-use Rattle.translator.specs.Common.{common, NumbersPut, Alike, AlikeTo, Tells, TellsAll}
-
--- ---- the characters that two texts begin alike with, where the first i are
-
-pub common-none : (x y : List ℕ) → common x y ≡ 0 + common (drop 0 x) (drop 0 y)
-common-none x y = sym (zero-add (common x y))
-
-module _ (x y : List ℕ) (i : ℕ) (e : common x y ≡ i + common (drop i x) (drop i y)) where
-  pub common-end : length x ≤ i → i ≡ common x y
-  unfolding common
-  common-end h = sym (e ∙ rw (drop-of-length-le x h) (omega arith))
-
-  module _ (h : i < length x) where
-    pub common-over : length y ≤ i → i ≡ common x y
-    unfolding common
-    common-over k = sym (e ∙ rw (drop-cons x i 0 h, drop-of-length-le y k) (omega arith))
-
-    module _ (k : i < length y) where
-      pub common-differs : (getD x i 0 ≡ getD y i 0 → ⊥) → i ≡ common x y
-      unfolding common
-      common-differs d = sym (e ∙ rw (drop-cons x i 0 h, drop-cons y i 0 k, ne-eqb (getD x i 0) (getD y i 0) d) (omega arith))
-
-      pub common-step : getD x i 0 ≡ getD y i 0 → common x y ≡ i + 1 + common (drop (i + 1) x) (drop (i + 1) y)
-      unfolding common
-      common-step d = e ∙ rw (drop-cons x i 0 h, drop-cons y i 0 k, eq-eqb (getD x i 0) (getD y i 0) d, add-one) (omega arith)
-
-pub ruleset common-laws = (needs, common-none, common-end, common-over, common-differs, common-step)
+use Rattle.translator.specs.Common.{NumbersPut, Alike, AlikeTo, Tells, TellsAll}
 
 -- ---- the numbers of a string, and of all
 

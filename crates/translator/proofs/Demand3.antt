@@ -2,7 +2,7 @@
 -- of each host what the note is. Assumes nothing.
 use mathlib.Core.Path.{_≡_, ap, _∙_}
 use mathlib.Core.List.{List}
-use Prim.Native.Nat.{ℕ, _≤_}
+use Prim.Native.Nat.{ℕ}
 use native.Mathlib.Omega.{arith}
 use lib.ListN.{length}
 use borrow.Author.Tests.{le-leb}
@@ -13,8 +13,8 @@ use Rattle.search.proofs.Meaning.{search-law}
 use Rattle.search.specs.Search.{Result, plainSearch}
 use Rattle.table.specs.Run.{runRule}
 use Rattle.states.specs.State.{total}
-use Rattle.translator.specs.Translate.{listed, translateRefusal, noteIn, Table, Words, Translated}
-use Rattle.translator.specs.Demand3.{Listed, Found, Demand3}
+use Rattle.translator.specs.Translate.{listed, translateRefusal, noteIn, Table, Words}
+use Rattle.translator.specs.Demand3.{Found, Demand3}
 
 -- a note comes with a number read
 pub noted : (o : Outcome (Result × ℕ)) (r : Result) → noteIn o ≡ gives r → (n : ℕ) × (o ≡ gives (r, n))
@@ -39,9 +39,7 @@ module _ (ss : List (List ℕ)) (ws s : List ℕ) (host : StrPtr) (e : noteIn (r
         is-nothing = λ f. a .1 ∙ ap (λ (x : Result). gives (x, a .0)) (law .is-nothing f);
       }
 
--- any list within the limits; any room of at least 31,461 words, whatever it held; whatever the call answered and left
-pub demand-3 : (s : List ℕ) (list : List StrPtr) (count : ℕ) (old : List ℕ) → Listed s list count → 31461 ≤ length old
-    → (answer : Outcome (Unit {0})) (new : List ℕ) → Translated s list count old answer new → Demand3 s list count answer new
+pub demand-3 : Demand3
 unfolding outcome Words translateRefusal
 demand-3 s list count old l room answer new t =
     let none : translateRefusal s list count (length old) ≡ 0

@@ -1,18 +1,13 @@
 -- How far the listed strings are alike, and what this tells of the prefixes that have rows. Assumes nothing.
-use Prim.Native.Nat.{ℕ, suc, _+_, _*_, _≤_, _<_}
+use Prim.Native.Nat.{ℕ, _+_, _*_, _≤_, _<_}
 use mathlib.Core.Path.{_≡_}
-use mathlib.Core.Bool.{cond, _&&_}
-use mathlib.Core.List.{List, [], _∷_}
-use lib.Dec.{eqb, leb}
+use mathlib.Core.Bool.{_&&_}
+use mathlib.Core.List.{List, []}
+use lib.Dec.{leb}
 use lib.ListN.{length, getD}
 use Rattle.search.specs.Search.{isPrefix}
 use Rattle.states.specs.Fill.{Wrote}
-
--- how many characters two texts begin alike with
-unfoldable pub common : List ℕ → List ℕ → ℕ
-common [] y = 0
-common (a ∷ x) [] = 0
-common (a ∷ x) (b ∷ y) = cond (eqb a b) (suc (common x y)) 0
+use Rattle.words.specs.Alike.{common}
 
 -- the numbers of x were put, for the first n strings, from base on
 pub record NumbersPut (ss : List (List ℕ)) (ns ns′ : List ℕ) (base n : ℕ) (x : List ℕ) : Type 0 where

@@ -1,4 +1,4 @@
--- Demand 3: what the translator and the run do together. Assumes nothing.
+-- Demand 3: what the translator and the run do together. The claim is the last line, `Demand3`; proofs/Demand3 proves it. Assumes nothing.
 use Prim.Native.Nat.{ℕ, _≤_}
 use mathlib.Core.Path.{_≡_}
 use mathlib.Core.Bool.{true}
@@ -11,7 +11,7 @@ use Rattle.search.specs.Search.{nothing, found, plainSearch}
 use Rattle.search.specs.Occurrence.{Earliest, Nowhere}
 use Rattle.table.specs.Run.{runRule}
 use Rattle.states.specs.State.{total}
-use Rattle.translator.specs.Translate.{listed, Host}
+use Rattle.translator.specs.Translate.{listed, Host, Translated}
 
 -- a list within the limits
 pub record Listed (s : List ℕ) (list : List StrPtr) (count : ℕ) : Type 0 where
@@ -32,6 +32,16 @@ pub record Found (ss : List (List ℕ)) (words s : List ℕ) (host : StrPtr) : T
   pub is-nothing : Nowhere ss (textOf s host) → runRule s host words ≡ gives (nothing, read)
 
 -- the translator does not refuse, and one table serves any number of hosts, each in a store of its own
-pub record Demand3 (s : List ℕ) (list : List StrPtr) (count : ℕ) (answer : Outcome (Unit {0})) (new : List ℕ) : Type 0 where
+pub record Serves (s : List ℕ) (list : List StrPtr) (count : ℕ) (answer : Outcome (Unit {0})) (new : List ℕ) : Type 0 where
   pub done : answer ≡ gives tt
   pub hosts : (t : List ℕ) (host : StrPtr) → Host t host → Found (listed s list count) new t host
+
+-- any list within the limits, in any store; any room of at least 31,461 words, whatever it held; whatever the call answered and left
+abbrev pub Demand3 : Type 0
+Demand3 =
+    (s : List ℕ) (list : List StrPtr) (count : ℕ) (old : List ℕ)
+    → Listed s list count
+    → 31461 ≤ length old
+    → (answer : Outcome (Unit {0})) (new : List ℕ)
+    → Translated s list count old answer new
+    → Serves s list count answer new

@@ -6,24 +6,7 @@ ghost use mathlib.Core.Path.{_≡_};
 ghost use Prim.Native.Nat.{_+_, _≤_};
 ghost use lib.ListN.{length};
 ghost use Rattle.translator.specs.Translate.{listed};
-ghost use Rattle.translator.specs.Common.{common, NumbersPut, Alike};
-
-// How many characters x and y begin alike with.
-fn common_of(x: &[u8], y: &[u8]) -> usize
-    ensures { λ r. ⌜ r ≡ common (now (x .entry)) (now (y .entry)) ⌝ }
-{
-    let mut i = 0;
-    while i < x.len() {
-        if y.len() <= i {
-            return i;
-        }
-        if x[i] != y[i] {
-            return i;
-        }
-        i += 1;
-    }
-    i
-}
+ghost use Rattle.translator.specs.Common.{NumbersPut, Alike};
 
 // The numbers of x, from base on.
 fn put_numbers(
@@ -40,7 +23,7 @@ fn put_numbers(
     let mut k = 0;
     while k < count {
         let y = strlib::text(store, list[k]);
-        alike[base + k] = common_of(y, x);
+        alike[base + k] = words::alike(y, x);
         k += 1;
     }
 }

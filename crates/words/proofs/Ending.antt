@@ -1,45 +1,19 @@
 -- Laws of the loops: what is sought from a place on is sought from the place reached, as long as nothing was met. Assumes nothing.
-use mathlib.Core.Path.{_≡_, refl, sym, _∙_}
-use mathlib.Core.Bool.{Bool, true, false}
-use mathlib.Core.List.{List, [], _∷_}
+use mathlib.Core.Path.{_≡_, sym, _∙_}
+use mathlib.Core.List.{List}
 use Prim.Native.Nat.{ℕ, suc, _+_, _-_, _≤_, _<_}
+use native.Mathlib.Nat.{zero-add}
 use native.Mathlib.Numerals.{add-one}
 use native.Mathlib.Omega.{arith}
 use borrow.Author.Needs.{needs}
-use borrow.Author.Tests.{leb-true, leb-false, eq-eqb, ne-eqb}
-use lib.Dec.{leb, eqb}
-use lib.ListN.{length, getD, drop, drop-of-length-le}
-use lib.Seq.{drop-cons}
+use borrow.Author.Tests.{eq-eqb, ne-eqb}
+use lib.ListN.{length, getD, take, drop, length-drop, drop-of-length-le}
+use lib.Seq.{drop-cons, take-all}
 use Rattle.strlib.specs.Pointer.{pointer}
 use Rattle.strlib.specs.declared.StrPtr.{StrPtr}
 use Rattle.words.specs.Ends.{upTo, blankCount, blanksEnd, endOf}
-use Rattle.words.specs.Words.{same, pointerOf}
+use Rattle.words.specs.Words.{pointerOf}
 use Rattle.words.specs.declared.Piece.{Piece}
-
--- ---- the same bytes
-
-module _ (a b : List ℕ) (i : ℕ) (e : same a b ≡ same (drop i a) (drop i b)) where
-  pub same-short : i < length a → length b ≤ i → false ≡ same a b
-  unfolding same
-  same-short h k = sym (e ∙ rw (drop-cons a i 0, drop-of-length-le b k))
-
-  pub same-differs : i < length a → i < length b → (getD a i 0 ≡ getD b i 0 → ⊥) → false ≡ same a b
-  unfolding same
-  same-differs h k d = sym (e ∙ rw (drop-cons a i 0, drop-cons b i 0, ne-eqb _ _ d))
-
-  pub same-step : i < length a → i < length b → getD a i 0 ≡ getD b i 0 → same a b ≡ same (drop (i + 1) a) (drop (i + 1) b)
-  unfolding same
-  same-step h k d = e ∙ rw (add-one, drop-cons a i 0, drop-cons b i 0, eq-eqb _ _ d)
-
-  pub same-end : length a ≤ i → leb (length b) i ≡ same a b
-  unfolding same
-  same-end h = sym (e ∙ rw (drop-of-length-le a h) (go (leb (length b) i) refl))
-    where
-      go : (t : Bool) → leb (length b) i ≡ t → same [] (drop i b) ≡ leb (length b) i
-      go true f = rw (f, drop-of-length-le b (leb-true (length b) i f))
-      go false f = rw (f, drop-cons b i 0 (leb-false (length b) i f))
-
-pub ruleset same-laws = (needs, same-short, same-differs, same-step, same-end)
 
 -- ---- ends
 
@@ -68,6 +42,15 @@ module _ (b : ℕ) (s : List ℕ) (at i : ℕ) (e : endOf b s at ≡ endOf b s i
   pub end-last : length s ≤ i → i ≡ endOf b s at
   unfolding endOf upTo
   end-last h = sym (e ∙ (let q : length (upTo b (drop i s)) ≡ 0 = rw (drop-of-length-le s h) in omega arith))
+
+-- a slice from a place on to its end
+pub rest-is : (s : List ℕ) (i : ℕ) → take (length s - i) (drop i s) ≡ drop i s
+rest-is s i = take-all (length s - i) (drop i s) (simp length-drop (omega arith))
+
+-- the blanks in front of a whole text
+pub blanks-front : (s : List ℕ) → blanksEnd s 0 ≡ blankCount s
+unfolding blanksEnd
+blanks-front s = zero-add (blankCount s)
 
 pub ruleset end-laws = (needs, blanks-more, blanks-stop, blanks-last, end-more, end-stop, end-last)
 

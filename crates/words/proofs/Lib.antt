@@ -1,3 +1,4 @@
+pub mod Likening
 pub mod Ending
 pub mod Wording
 pub mod Lining

@@ -7,14 +7,13 @@ use native.Mathlib.Omega.{arith}
 use borrow.Author.Needs.{needs}
 use borrow.Author.Tests.{ltb-true, ltb-false, lt-ltb, le-ltb}
 use lib.Dec.{eqb, ltb}
-use lib.ListN.{length, take, drop, length-drop, drop-of-length-le}
+use lib.ListN.{length, drop, length-drop, drop-of-length-le}
 use lib.Seq.{drop-drop}
 use Rattle.strlib.specs.Pointer.{pointer, textOf}
 use Rattle.words.specs.Ends.{upTo, endOf}
 use Rattle.words.specs.Words.{pointerOf}
 use Rattle.words.specs.Lines.{linesIn, lines, nextLine, walk}
-use Rattle.words.specs.declared.Piece.{Piece}
-use Rattle.words.proofs.Wording.{upTo-take, upTo-le}
+use Rattle.words.proofs.Wording.{upTo-take}
 
 module _ (s : List ℕ) (at e : ℕ) (q : e ≡ endOf 10 s at) where
   pub next-in : e < length s → record { from = at; to = e; next = e + 1 } ≡ nextLine s at

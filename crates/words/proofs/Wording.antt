@@ -1,6 +1,6 @@
 -- Laws of words: behind the blanks from a place on stands the first word left, and behind it the other words. Assumes nothing.
 use mathlib.Core.Path.{_≡_, refl, sym, ap, _∙_}
-use mathlib.Core.Bool.{Bool, true, false, cond, _&&_}
+use mathlib.Core.Bool.{Bool, true, false, cond}
 use mathlib.Core.List.{List, [], _∷_}
 use Prim.Native.Nat.{ℕ, zero, suc, _+_, _-_, _≤_, _<_}
 use native.Mathlib.Omega.{arith}
@@ -35,7 +35,7 @@ upTo-le b (c ∷ cs) = go (upTo-le b cs) (eqb c b)
     go r true = omega arith
     go r false = omega arith
 
-blanks-le : (s : List ℕ) → blankCount s ≤ length s
+pub blanks-le : (s : List ℕ) → blankCount s ≤ length s
 unfolding blankCount
 blanks-le [] = omega arith
 blanks-le (c ∷ cs) = go (blanks-le cs) (eqb c 32)
@@ -79,6 +79,10 @@ words-next (c ∷ cs) = go (words-next cs) (eqb c 32) refl
         → words (c ∷ cs) ≡ firstOf (drop (cond t (suc (blankCount cs)) 0) (c ∷ cs))
     go r true e = rw e r
     go r false e = rw (e, lt-ltb 0 (suc (length (upTo 32 cs))) (omega arith)) (ap (λ (l : List (List ℕ)). (c ∷ upTo 32 cs) ∷ l) (words-past cs))
+
+pub word-found : (s : List ℕ) (at from to : ℕ) → from ≡ blanksEnd s at → to ≡ endOf 32 s from → record { from = from; to = to; next = to } ≡ nextWord s at
+unfolding nextWord
+word-found s at from to e f = rw (f, e)
 
 module _ (s : List ℕ) (at : ℕ) where
   abbrev w : Piece

@@ -1,7 +1,6 @@
 -- Words and lines of small texts, as one claim on the definitions. Assumes nothing.
-use Prim.Native.Nat.{ℕ}
 use mathlib.Core.Path.{_≡_, refl}
-use mathlib.Core.List.{List, [], _∷_, _++_}
+use mathlib.Core.List.{[], _∷_, _++_}
 use Rattle.strlib.specs.Quoted.{bytes}
 use Rattle.words.specs.Ends.{upTo}
 use Rattle.words.specs.Words.{wordsIn, words}

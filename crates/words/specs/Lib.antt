@@ -1,4 +1,5 @@
 pub mod Ends
+pub mod Alike
 pub mod Words
 pub mod Lines
 pub mod Examples

@@ -2,6 +2,7 @@
 ghost use mathlib.Core.Path.{_≡_};
 ghost use Rattle.words.specs.Lines.{nextLine};
 ghost use Rattle.words.specs.Words.{same, pointerOf, nextWord};
+ghost use Rattle.words.specs.Alike.{common};
 ghost use Rattle.words.specs.Ends.{blanksEnd, endOf};
 use strlib::StrPtr;
 
@@ -26,25 +27,33 @@ impl Piece {
     }
 }
 
-// Whether two texts are the same, byte by byte.
-pub fn are_same(a: &[u8], b: &[u8]) -> bool
-    ensures { λ r. ⌜ r ≡ same (now (a .entry)) (now (b .entry)) ⌝ }
+// How many bytes two texts begin alike with.
+pub fn alike(a: &[u8], b: &[u8]) -> usize
+    ensures { λ r. ⌜ r ≡ common (now (a .entry)) (now (b .entry)) ⌝ }
 {
     let mut i = 0;
     while i < a.len() {
         if b.len() <= i {
-            return false;
+            return i;
         }
         if a[i] != b[i] {
-            return false;
+            return i;
         }
         i += 1;
     }
-    b.len() <= i
+    i
+}
+
+// Whether two texts are the same, byte by byte.
+pub fn are_same(a: &[u8], b: &[u8]) -> bool
+    ensures { λ r. ⌜ r ≡ same (now (a .entry)) (now (b .entry)) ⌝ }
+{
+    let n = alike(a, b);
+    strlib::both(a.len() <= n, b.len() <= n)
 }
 
 // The first place from `at` on that has no blank.
-fn blanks_end(text: &[u8], at: usize) -> usize
+pub fn blanks_end(text: &[u8], at: usize) -> usize
     ensures { λ r. ⌜ r ≡ blanksEnd (now (text .entry)) at ⌝ }
 {
     let mut i = at;

@@ -1,11 +1,6 @@
-use Rattle.charset.specs.Sets.{blockFits, maskFits}
-use Rattle.charset.proofs.Answering.{set-checked}
+use Rattle.charset.proofs.Answering.{answer-laws}
 use Rattle.charset.proofs.set_refusal.Statement.{statement}
 use Rattle.charset.proofs.set_refusal.Tie as tie
-
-returns : tie.Need-returns
-unfolding blockFits maskFits
-returns c = set-checked _ _ _ _ _ (cc)
 
 pub set-refusal-spec : {M : Type 1} → statement M
 set-refusal-spec =
@@ -16,4 +11,4 @@ set-refusal-spec =
     (λ c κs. tt)
     (λ c κs. tt)
     (λ c κs. tt)
-    returns)
+    (λ c. search answer-laws))

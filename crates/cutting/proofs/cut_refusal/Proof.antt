@@ -1,4 +1,4 @@
-use Rattle.cutting.proofs.Making.{cut-checked}
+use Rattle.cutting.proofs.Making.{cut-call-laws}
 use Rattle.cutting.proofs.cut_refusal.Statement.{statement}
 use Rattle.cutting.proofs.cut_refusal.Tie as tie
 
@@ -11,4 +11,4 @@ cut-refusal-spec =
     (λ c κs. tt)
     (λ c κs. tt)
     (λ c κs. tt)
-    (λ c. cut-checked _ _ _ _ (cc)))
+    (λ c. search cut-call-laws))

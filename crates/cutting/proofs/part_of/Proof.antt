@@ -1,11 +1,11 @@
 use borrow.Author.Needs.{needs}
-use Rattle.strlib.specs.Pointer.{pointer, partOf}
+use Rattle.strlib.specs.Pointer.{partOf}
 use Rattle.cutting.proofs.part_of.Statement.{statement}
 use Rattle.cutting.proofs.part_of.Tie as tie
 
 returns : tie.Need-returns
-unfolding pointer partOf
-returns c = c .new .ensures
+unfolding partOf
+returns c = c .part .ensures
 
 pub part-of-spec : {M : Type 1} → statement M
 part-of-spec =

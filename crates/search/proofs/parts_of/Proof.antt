@@ -1,11 +1,7 @@
 use borrow.Author.Needs.{needs}
-use Rattle.search.specs.Rule.{partsOf}
+use Rattle.search.proofs.Answering.{parts-is}
 use Rattle.search.proofs.parts_of.Statement.{statement}
 use Rattle.search.proofs.parts_of.Tie as tie
-
-returns : tie.Need-returns
-unfolding partsOf
-returns c = cc
 
 pub parts-of-spec : {M : Type 1} → statement M
 parts-of-spec =
@@ -24,4 +20,4 @@ parts-of-spec =
     (λ c. search needs)
     (λ c. search needs)
     (λ c κs. search needs)
-    returns)
+    (λ c. search (needs, parts-is)))

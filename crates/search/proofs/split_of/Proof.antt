@@ -1,11 +1,7 @@
 use borrow.Author.Needs.{needs}
-use Rattle.search.specs.Rule.{splitOf}
+use Rattle.search.proofs.Answering.{split-is}
 use Rattle.search.proofs.split_of.Statement.{statement}
 use Rattle.search.proofs.split_of.Tie as tie
-
-returns : tie.Need-returns
-unfolding splitOf
-returns c = cc
 
 pub split-of-spec : {M : Type 1} → statement M
 split-of-spec =
@@ -20,4 +16,4 @@ split-of-spec =
     (λ c. search needs)
     (λ c. search needs)
     (λ c κs. search needs)
-    returns)
+    (λ c. search (needs, split-is)))

@@ -1,10 +1,6 @@
-use Rattle.compare.specs.Order.{orderN}
+use Rattle.compare.proofs.Deciding.{deciding-laws}
 use Rattle.compare.proofs.numbers.order_of.Statement.{statement}
 use Rattle.compare.proofs.numbers.order_of.Tie as tie
-
-returns : tie.Need-returns
-unfolding orderN
-returns c = cc
 
 pub order-of-spec : {M : Type 1} → statement M
 order-of-spec =
@@ -12,4 +8,4 @@ order-of-spec =
     (tie.spec
     (λ c κs. tt)
     (λ c κs. tt)
-    returns)
+    (λ c. search deciding-laws))

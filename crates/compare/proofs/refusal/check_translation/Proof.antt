@@ -1,4 +1,4 @@
-use mir.Facts.{toZ-ofZ}
+use Rattle.compare.proofs.Calling.{compare-laws}
 use Rattle.compare.proofs.refusal.check_translation.Statement.{statement}
 use Rattle.compare.proofs.refusal.check_translation.Tie as tie
 
@@ -8,4 +8,4 @@ check-translation-spec =
     (tie.spec
     (λ c κs. tt)
     (λ c κs. tt)
-    (λ c. cc (toZ-ofZ (c .before .before .fits .translation))))
+    (λ c. search compare-laws))

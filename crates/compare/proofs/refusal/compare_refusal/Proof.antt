@@ -1,5 +1,4 @@
-use mir.Facts.{toZ-ofZ}
-use Rattle.compare.proofs.Calling.{compare-checked}
+use Rattle.compare.proofs.Calling.{compare-laws}
 use Rattle.compare.proofs.refusal.compare_refusal.Statement.{statement}
 use Rattle.compare.proofs.refusal.compare_refusal.Tie as tie
 
@@ -15,4 +14,4 @@ compare-refusal-spec =
     (λ c κs. tt)
     (λ c κs. tt)
     (λ c κs. tt)
-    (λ c. compare-checked _ _ _ _ _ _ _ (cc (toZ-ofZ (c .before .before .before .before .before .before .before .before .before .fits .translation)))))
+    (λ c. search compare-laws))

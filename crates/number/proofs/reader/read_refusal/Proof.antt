@@ -1,4 +1,4 @@
-use Rattle.number.proofs.Calling.{read-checked}
+use Rattle.number.proofs.Calling.{read-laws}
 use Rattle.number.proofs.reader.read_refusal.Statement.{statement}
 use Rattle.number.proofs.reader.read_refusal.Tie as tie
 
@@ -11,4 +11,4 @@ read-refusal-spec =
     (λ c κs. tt)
     (λ c κs. tt)
     (λ c κs. tt)
-    (λ c. read-checked _ _ _ _ (cc)))
+    (λ c. search read-laws))

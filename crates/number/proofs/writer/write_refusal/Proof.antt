@@ -1,5 +1,4 @@
-use mir.Facts.{toZ-ofZ}
-use Rattle.number.proofs.Calling.{write-checked}
+use Rattle.number.proofs.Calling.{write-laws}
 use Rattle.number.proofs.writer.write_refusal.Statement.{statement}
 use Rattle.number.proofs.writer.write_refusal.Tie as tie
 
@@ -13,4 +12,4 @@ write-refusal-spec =
     (λ c κs. tt)
     (λ c κs. tt)
     (λ c κs. tt)
-    (λ c. write-checked _ _ _ _ _ (cc (toZ-ofZ (c .before .before .before .before .before .before .before .fits .value)))))
+    (λ c. search write-laws))

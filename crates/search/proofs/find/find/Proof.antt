@@ -48,4 +48,4 @@ find-spec =
     (λ c. search find-laws)
     (λ c. search find-laws)
     (λ c. search find-laws)
-    (λ c. ⊎-elim (λ w. let z : c .positions-test .number ≡ 0 = cc in search find-laws) (λ w. search find-laws) (c .positions-test .came)))
+    (λ c. ⊎-elim (λ w. search find-laws) (λ w. search find-laws) (c .positions-test .came)))

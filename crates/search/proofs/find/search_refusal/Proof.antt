@@ -1,4 +1,4 @@
-use Rattle.search.proofs.Answering.{search-checked}
+use Rattle.search.proofs.Answering.{listed-laws}
 use Rattle.search.proofs.find.search_refusal.Statement.{statement}
 use Rattle.search.proofs.find.search_refusal.Tie as tie
 
@@ -12,4 +12,4 @@ search-refusal-spec =
     (λ c κs. tt)
     (λ c κs. tt)
     (λ c κs. tt)
-    (λ c. search-checked _ _ _ _ _ (cc)))
+    (λ c. search listed-laws))

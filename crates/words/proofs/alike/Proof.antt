@@ -1,19 +1,19 @@
 use mathlib.Core.Path.{_≡_}
 use Prim.Native.Nat.{_+_, _-_}
 use lib.ListN.{length, drop}
-use Rattle.translator.specs.Common.{common}
-use Rattle.translator.proofs.Common.{common-laws}
-use Rattle.translator.proofs.alike.common_of.Statement.{statement}
-use Rattle.translator.proofs.alike.common_of.Tie as tie
+use Rattle.words.specs.Alike.{common}
+use Rattle.words.proofs.Likening.{common-laws}
+use Rattle.words.proofs.alike.Statement.{statement}
+use Rattle.words.proofs.alike.Tie as tie
 
 abbrev Inv-loop : tie.InvT-loop
-Inv-loop x y i₀ i = common x y ≡ i + common (drop i x) (drop i y)
+Inv-loop a b i₀ i = common a b ≡ i + common (drop i a) (drop i b)
 
 abbrev μ-loop : tie.MeasureT-loop
-μ-loop x y i₀ i = length x - i
+μ-loop a b i₀ i = length a - i
 
-pub common-of-spec : {M : Type 1} → statement M
-common-of-spec =
+pub alike-spec : {M : Type 1} → statement M
+alike-spec =
     tie.close
     (tie.spec
     Inv-loop

@@ -134,9 +134,9 @@ unfolding trimmed blanks all
 trimmed-blank [] = refl
 trimmed-blank (x ∷ s) = rw (blanks-more (x ∷ s), trimmed-blank s)
 
-pub trimmed-blanks : (k : ℕ) (s : List ℕ) → trimmed (s ++ replicate k 32) ≡ trimmed s
-trimmed-blanks zero s = ap trimmed (append-nil s)
-trimmed-blanks (suc k) s = ap trimmed (sym (append-snoc s 32 (replicate k 32))) ∙ trimmed-blanks k (s ++ (32 ∷ [])) ∙ trimmed-blank s
+pub trimmed-padded : (k : ℕ) (s : List ℕ) → trimmed (s ++ replicate k 32) ≡ trimmed s
+trimmed-padded zero s = ap trimmed (append-nil s)
+trimmed-padded (suc k) s = ap trimmed (sym (append-snoc s 32 (replicate k 32))) ∙ trimmed-padded k (s ++ (32 ∷ [])) ∙ trimmed-blank s
 
 trimmed-other : (s : List ℕ) (y : ℕ) → (y ≡ 32 → ⊥) → trimmed (s ++ (y ∷ [])) ≡ suc (length s)
 unfolding trimmed

@@ -66,7 +66,7 @@ matrixChecks mics lsps n m g = (12, isIndex mics n) ∷ (12, isIndex lsps m) ∷
 abbrev pub numberChecks : ℕ → ℕ → List ℕ → List ℕ → List ℕ → List (ℕ × Bool)
 numberChecks mics lsps a b c = ofText 10 a ++ (ofText 10 b ++ (ofText 10 c ++ matrixChecks mics lsps (numberOf 10 a) (numberOf 10 b) (numberOf 10 c)))
 
--- first 11 of the words
+-- 11 of the words, then the numbers
 abbrev pub wordChecks : List ℕ → ℕ → ℕ → List (ℕ × Bool)
 wordChecks line mics lsps = (11, formed line) ∷ numberChecks mics lsps (micWord line) (lspWord line) (gainWord line)
 

@@ -14,7 +14,7 @@ use mir.Syntax.{w64}
 use mir.Val.{Fits}
 use Rattle.strlib.proofs.Refusing.{and-both}
 use Rattle.strlib.specs.Pointer.{all}
-use Rattle.cutting.proofs.Bounding.{trimmed-le, trimmed-blanks}
+use Rattle.cutting.proofs.Bounding.{trimmed-le, trimmed-padded}
 use Rattle.cutting.specs.Cutting.{trimmed}
 use Rattle.records.specs.Record.{headSize, widthOf, sizeOf, limitOf, isKind, isNumber, isName, earlier, padded}
 
@@ -104,7 +104,7 @@ padded-length w name h = simp (length-append, length-replicate) (omega arith)
 
 pub padded-trimmed : (w : ℕ) (name : List ℕ) → trimmed (padded w name) ≡ trimmed name
 unfolding padded
-padded-trimmed w name = trimmed-blanks (w - length name) name
+padded-trimmed w name = trimmed-padded (w - length name) name
 
 -- the trimmed name stands at its front
 pub padded-text : (w : ℕ) (name : List ℕ) → take (trimmed name) (padded w name) ≡ take (trimmed name) name

@@ -1,10 +1,10 @@
 -- Laws of a text that grows in a buffer, and of text behind text. Assumes nothing.
-use mathlib.Core.Path.{_≡_, refl, sym, ap, _∙_}
+use mathlib.Core.Path.{_≡_, refl, ap, _∙_}
 use mathlib.Core.List.{List, [], _∷_, _++_, append-nil}
 use Prim.Native.Nat.{ℕ, zero, suc, _+_, _-_, _≤_, _<_, min}
 use native.Mathlib.Omega.{arith}
 use borrow.Author.Needs.{needs}
-use lib.ListN.{length, take, drop, length-take, length-append}
+use lib.ListN.{length, take, length-take, length-append}
 use lib.Seq.{take-all, take-nil}
 use Rattle.strlib.proofs.Pointing.{either}
 use Rattle.strlib.proofs.Storing.{put-none, put-length, put-head, put-put, take-append}

@@ -1,5 +1,5 @@
--- What an answer to a cue line tells: a cue that is given lies in the matrix, and its gain in the range; a refusal is one of those listed.
--- Assumes nothing.
+-- What an answer to a cue line tells: a cue that is given lies in the matrix, and its gain in the range; a refusal is
+-- one of those listed. Assumes nothing.
 use mathlib.Core.Path.{_≡_, refl, sym}
 use mathlib.Core.Bool.{true, false, false≢true}
 use mathlib.Core.List.{List}
@@ -14,7 +14,7 @@ use Rattle.number.specs.Text.{numberOf}
 use Rattle.strlib.proofs.Refusing.{bool-case, and-both, passed, outcome-no, outcome-gave, outcome-is, first-under}
 use Rattle.strlib.proofs.Pointing.{fits-is}
 use Rattle.strlib.specs.Pointer.{storeFits}
-use Rattle.strlib.specs.Refusal.{refused, gives, outcome}
+use Rattle.strlib.specs.Refusal.{refused, gives}
 use Rattle.desk.specs.declared.cue.Cue.{Cue}
 use Rattle.desk.specs.Cue.{isIndex, isGain, micWord, lspWord, gainWord, cueChecks, cueRefusal, cueOf, cueRule}
 

@@ -1,11 +1,11 @@
 -- Laws of the numbers of a cue: a signed number as an index, and the three against the matrix. Assumes nothing.
-use mathlib.Core.Path.{_≡_, refl, sym, ap, _∙_}
+use mathlib.Core.Path.{_≡_, refl, sym, _∙_}
 use mathlib.Core.Bool.{Bool, true, false, cond, _&&_, and-true, and-false, true≢false, false≢true}
 use Prim.Native.Nat.{ℕ, zero, suc, _^_, _≤_, _<_}
 use native.Mathlib.Omega.{arith}
 use borrow.Author.Needs.{needs}
-use borrow.Author.Tests.{leb-true, leb-false, ltb-true, le-leb, lt-leb}
-use lib.Dec.{T, leb, ltb}
+use borrow.Author.Tests.{ltb-true, le-leb, lt-leb}
+use lib.Dec.{T, leb}
 use lib.IntN.{ℤ, pos, negsuc, natAbs}
 use lib.Signed.{mag, leZ, ltZ, nonNeg}
 use mir.Facts.{toZ-ofZ}

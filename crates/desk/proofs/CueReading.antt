@@ -1,12 +1,11 @@
--- Laws of the call: the checks before the words find what the rule's first checks find, and behind them and the form the numbers are read
--- as texts of characters, in order. Assumes nothing.
+-- Laws of the call: the checks before the words find what the rule's first checks find, and behind them and the form
+-- the numbers are read as texts of characters, in order. Assumes nothing.
 use mathlib.Core.Path.{_≡_, refl, sym, ap, _∙_}
 use mathlib.Core.Bool.{Bool, true, false, cond, _&&_}
-use mathlib.Core.List.{List, [], _∷_, _++_}
-use Prim.Native.Nat.{ℕ, zero, suc, _≤_, _<_}
+use mathlib.Core.List.{List, [], _++_}
+use Prim.Native.Nat.{ℕ, zero, suc, _<_}
 use native.Mathlib.Omega.{arith}
 use borrow.Author.Needs.{needs}
-use borrow.Author.Tests.{leb-true}
 use lib.Dec.{leb}
 use lib.IntN.{ℤ}
 use lib.ListN.{length, getD}

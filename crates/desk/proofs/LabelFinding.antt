@@ -1,15 +1,15 @@
--- Laws of the lookup: what the reader answered decides first, and a name that is found lies in the list. Assumes nothing.
+-- Laws of the lookup: what the reader answered decides first, and a name that is found lies in the list. Assumes
+-- nothing.
 use mathlib.Core.Path.{_≡_, refl, sym, ap, _∙_}
 use mathlib.Core.List.{List, [], _++_}
 use Prim.Native.Nat.{ℕ, zero, suc, _+_, _-_, _*_, _≤_, _<_, _^_}
 use native.Mathlib.Omega.{arith}
-use lib.ListN.{length, take, drop}
+use lib.ListN.{length}
 use denote.Ref.{RefT, now}
 use mir.Syntax.{w64}
 use mir.Val.{Fits}
 use borrow.Author.Needs.{needs}
 use Rattle.strlib.proofs.Refusing.{outcome-no, outcome-yes, outcome-gave}
-use Rattle.strlib.specs.Pointer.{pointer}
 use Rattle.strlib.specs.Refusal.{Outcome, refused, gives, Sought, nowhere, at, outcome}
 use Rattle.cutting.proofs.Bounding.{trimmed-le}
 use Rattle.cutting.proofs.Slicing.{part-trimmed, part-counted}

@@ -1,5 +1,5 @@
--- Laws of the reader: the first faulty record decides, and what the marks say of a record is whether its kind and number stood before it.
--- Assumes nothing.
+-- Laws of the reader: the first faulty record decides, and what the marks say of a record is whether its kind and
+-- number stood before it. Assumes nothing.
 use mathlib.Core.Path.{_≡_, refl, sym, ap, _∙_}
 use mathlib.Core.Bool.{Bool, true, false, cond, not, _&&_}
 use mathlib.Core.List.{List}
@@ -12,7 +12,7 @@ use mir.Val.{Fits}
 use borrow.Author.Needs.{needs}
 use Rattle.strlib.proofs.Refusing.{bool-case, outcome-no, outcome-yes, outcome-gave, outcome-is}
 use Rattle.strlib.specs.Refusal.{refused, gives, outcome}
-use Rattle.records.proofs.Fronts.{Body, body-passes, behind-body, behind-fresh}
+use Rattle.records.proofs.Fronts.{body-passes, behind-body, behind-fresh}
 use Rattle.records.proofs.Limits.{in-range}
 use Rattle.records.proofs.Reading.{Reached, reached-start, reached-next, reached-refusal, reached-count, reached-good, record-yes, record-no, fresh-next, fresh-none}
 use Rattle.records.proofs.Sizes.{size-least}

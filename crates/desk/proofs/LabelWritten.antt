@@ -6,7 +6,7 @@ use native.Mathlib.Omega.{arith}
 use lib.ListN.{length, take, length-append, length-take}
 use Rattle.strlib.proofs.Refusing.{outcome-yes, ruled-gave}
 use Rattle.strlib.proofs.Storing.{put-head}
-use Rattle.strlib.specs.Refusal.{Sought, gives, at, outcome}
+use Rattle.strlib.specs.Refusal.{gives, at, outcome}
 use Rattle.strlib.specs.Store.{put}
 use Rattle.cutting.specs.Cutting.{trimmed}
 use Rattle.records.proofs.Adding.{added-good, added-records, added-place, added-name, added-record, added-other, added-text}

@@ -1,4 +1,5 @@
--- Cue lines: 01, "Cue lines and labels". `MIC n TO LSP m GAIN g` is seven words; the line is its own store. Assumes nothing.
+-- Cue lines: 01, "Cue lines and labels". `MIC n TO LSP m GAIN g` is seven words; the line is its own store. Assumes
+-- nothing.
 use Prim.Native.Nat.{ℕ, _-_}
 use mathlib.Core.Bool.{Bool, _&&_}
 use mathlib.Core.List.{List, [], _∷_, _++_}

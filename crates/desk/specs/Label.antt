@@ -1,4 +1,5 @@
--- The label list: 01, "Cue lines and labels", second paragraph. Its records, and what they are refused with, are `records`'. Assumes nothing.
+-- The label list: 01, "Cue lines and labels", second paragraph. Its records, and what they are refused with, are
+-- `records`'. Assumes nothing.
 use Prim.Native.Nat.{ℕ, zero, suc, _+_, _-_}
 use mathlib.Core.Bool.{cond}
 use mathlib.Core.List.{List}
@@ -42,7 +43,8 @@ labelPlaced (Found place length) = gives (at (place, length))
 labelPlaced Missing = gives nowhere
 labelPlaced (Unplaced n) = refused n
 
--- the part that the read-only form cuts, as a string that fills its room: the empty part at the list's front on a refusal or no record
+-- the part that the read-only form cuts, as a string that fills its room: the empty part at the list's front on a
+-- refusal or no record
 unfoldable pub namePart : Outcome (Sought (ℕ × ℕ)) → StrPtr
 namePart (refused n) = pointer 0 0 0
 namePart (gives nowhere) = pointer 0 0 0

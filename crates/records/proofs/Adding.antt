@@ -1,5 +1,5 @@
--- A new record's bytes behind a good list: they pass, since what is asked of a new record is what the reader asks, and the list has that
--- record more and else what it had. Assumes nothing.
+-- A new record's bytes behind a good list: they pass, since what is asked of a new record is what the reader asks, and
+-- the list has that record more and else what it had. Assumes nothing.
 use mathlib.Core.Path.{_≡_, refl, sym, ap, _∙_}
 use mathlib.Core.Bool.{Bool, true, false, _&&_}
 use mathlib.Core.List.{List, _++_}

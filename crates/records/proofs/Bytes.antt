@@ -1,11 +1,10 @@
 -- A record's bytes say what was written: the kind, the number, and the name filled with blanks. Assumes nothing.
-use mathlib.Core.Path.{_≡_, refl, sym, ap, _∙_}
-use mathlib.Core.Bool.{true}
+use mathlib.Core.Path.{_≡_, refl}
 use mathlib.Core.List.{List}
 use Prim.Native.Nat.{ℕ, _%_, _≤_, _<_}
 use native.Mathlib.Nat.{div-add-mod'}
 use native.Mathlib.Omega.{arith}
-use lib.ListN.{length, take}
+use lib.ListN.{length}
 use lib.Seq.{take-all}
 use Rattle.records.proofs.Limits.{padded-length}
 use Rattle.records.specs.Record.{widthOf, sizeOf, kindOf, numberOf, nameIn, padded, labelBytes, fittedBytes}

@@ -1,5 +1,5 @@
--- The shape of a good list: each record passes behind those before it, record k lies at k times the first record's size, and a record that
--- passes behind a good list makes a good list of one record more. Assumes nothing.
+-- The shape of a good list: each record passes behind those before it, record k lies at k times the first record's
+-- size, and a record that passes behind a good list makes a good list of one record more. Assumes nothing.
 use mathlib.Core.Path.{_≡_, refl, sym, ap, _∙_}
 use mathlib.Core.List.{List, [], _∷_, _++_}
 use Prim.Native.Nat.{ℕ, zero, suc, _+_, _-_, _≤_, _<_}

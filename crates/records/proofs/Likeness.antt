@@ -1,6 +1,6 @@
--- Records of one kind and number. A lookup sees no more of a record, so that it finds the same in two lists whose records are alike.
--- Assumes nothing.
-use mathlib.Core.Path.{_≡_, refl, sym, ap, _∙_}
+-- Records of one kind and number. A lookup sees no more of a record, so that it finds the same in two lists whose
+-- records are alike. Assumes nothing.
+use mathlib.Core.Path.{_≡_, sym}
 use mathlib.Core.List.{List, _++_}
 use Prim.Native.Nat.{ℕ, _≤_, _<_}
 use lib.Dec.{eqb}

@@ -1,6 +1,6 @@
--- Laws for a loop that reads a list record by record: it carries how many records passed and where the next begins, and leaves off at the
--- first that does not pass, or at the end. Assumes nothing.
-use mathlib.Core.Path.{_≡_, refl, sym, ap, _∙_}
+-- Laws for a loop that reads a list record by record: it carries how many records passed and where the next begins, and
+-- leaves off at the first that does not pass, or at the end. Assumes nothing.
+use mathlib.Core.Path.{_≡_, refl, sym, _∙_}
 use mathlib.Core.Bool.{Bool, true, false, cond, not, _&&_}
 use mathlib.Core.List.{List}
 use Prim.Native.Nat.{ℕ, suc, _+_, _≤_, _<_}

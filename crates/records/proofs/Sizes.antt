@@ -1,4 +1,5 @@
--- Sizes of records and how many begin in a list: a size is 19, so that the count lies between two bounds. Assumes nothing.
+-- Sizes of records and how many begin in a list: a size is 19, so that the count lies between two bounds. Assumes
+-- nothing.
 use mathlib.Core.Path.{_≡_, refl}
 use mathlib.Core.List.{List, []}
 use Prim.Native.Nat.{ℕ, suc, _+_, _*_, _≤_, _<_}

@@ -112,7 +112,8 @@ keyChecks kind number = (11, isKind kind) ∷ (12, isNumber kind number) ∷ []
 unfoldable pub keyRefusal : ℕ → ℕ → ℕ
 keyRefusal kind number = first (keyChecks kind number)
 
--- what a new record is refused with behind a good list, after which the buffer has `room` bytes: first what looks at no character
+-- what a new record is refused with behind a good list, after which the buffer has `room` bytes: first what looks at no
+-- character
 abbrev pub formChecks : ℕ → ℕ → List ℕ → List (ℕ × Bool)
 formChecks kind number name = keyChecks kind number ++ ((4, leb (length name) (widthOf kind)) ∷ [])
 

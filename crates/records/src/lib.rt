@@ -1,5 +1,5 @@
-// The records of a label list, each a kind, a number and a name. Every call takes any bytes and any numbers; behind the end of a list
-// bytes count as 0.
+// The records of a label list, each a kind, a number and a name. Every call takes any bytes and any numbers; behind the
+// end of a list bytes count as 0.
 mod front;
 mod kinds;
 mod lists;

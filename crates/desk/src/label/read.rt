@@ -22,8 +22,8 @@ fn mark_of(kind: u8, number: usize) -> usize
     ROW * (kind as usize) + number
 }
 
-// How many records a list has, or what the first faulty one is refused with. A good list has each kind and number once and so 192 records
-// at most: of a longer list, record 193 is the last that is looked at.
+// How many records a list has, or what the first faulty one is refused with. A good list has each kind and number once
+// and so 192 records at most: of a longer list, record 193 is the last that is looked at.
 pub fn read_labels(list: &[u8]) -> LabelCount
     ensures { λ r. ⌜ labelCounted r ≡ readRule (now (list .entry)) ⌝ }
 {

@@ -1,23 +1,25 @@
 -- What the writers do to each bit: the digits of `bitOr`, `bitAnd` and of a complement follow digit by digit, and the blocks word by word.
 -- Assumes nothing.
-use Prim.Native.Nat.{ℕ, zero, suc, _-_, _*_, _/_, _^_, _≤_, _<_, min, max}
+use Prim.Native.Nat.{ℕ, zero, suc, _-_, _*_, _/_, _%_, _^_, _≤_, _<_, min, max}
 use mathlib.Core.Path.{_≡_, refl, sym, ap, _∙_}
 use mathlib.Core.Bool.{Bool, true, false, cond, _||_, true≢false, false≢true}
 use mathlib.Core.List.{List, [], _∷_}
 use native.Mathlib.Nat.{pow-suc}
 use native.Mathlib.Omega.{arith}
+use lib.Arith.{bin-ind}
 use lib.Bits.{bitAnd, bitOr, and-step, or-step}
-use lib.Dec.{eqb}
+use lib.Dec.{eqb, ltb}
 use lib.ListN.{length, getD, set, length-set}
 use lib.Seq.{lt-length-set, getD-set-same, getD-set-other}
-use borrow.Author.Tests.{eqb-true, eq-eqb, ltb-true}
+use borrow.Author.Tests.{eqb-true, eqb-false, eq-eqb, ltb-true, ltb-false}
+use Rattle.strlib.proofs.Pointing.{either}
 use Rattle.strlib.proofs.Refusing.{bool-case, ruled-gave}
 use Rattle.strlib.specs.Pointer.{textOf}
 use Rattle.strlib.specs.Refusal.{gives}
 use Rattle.strlib.specs.declared.StrPtr.{StrPtr}
-use Rattle.charset.specs.Bits.{bit, among, Turns}
+use Rattle.charset.specs.Bits.{bit, among, Turns, TabledBits}
 use Rattle.charset.specs.Rule.{blockRefusal, tablesRule, setRefusal, charactersRule}
-use Rattle.charset.specs.Sets.{maskFits, turned, turnedAll, turnedAt}
+use Rattle.charset.specs.Sets.{maskFits, turned, turnedAll, turnedAt, inTables}
 use Rattle.charset.proofs.Answering.{block-passed, set-passed}
 
 -- ---- digits
@@ -51,6 +53,17 @@ bit-small (suc b) (suc n) m h k = let p : 2 ^ suc n ≡ 2 ^ n * 2 = pow-suc 2 n 
 bit-le : (b m : ℕ) → bit b m ≤ 1
 bit-le zero m = omega arith
 bit-le (suc b) m = bit-le b (m / 2)
+
+-- a number over 0 has a bit that is 1
+some-bit : (n : ℕ) → 0 < n → (b : ℕ) × (bit b n ≡ 1)
+some-bit =
+    bin-ind (λ (n : ℕ). 0 < n → (b : ℕ) × (bit b n ≡ 1)) (λ h. absurd (omega arith))
+    (λ n ih h. bool-case (eqb (n % 2) 1)
+    (λ e. (0, eqb-true (n % 2) 1 e))
+    (λ e. let d : n % 2 ≡ 1 → ⊥ = eqb-false (n % 2) 1 e in let r = ih (half n d h) in (suc (r .0), r .1)))
+  where
+    half : (n : ℕ) → (n % 2 ≡ 1 → ⊥) → 0 < n → 0 < n / 2
+    half n d h = omega arith
 
 -- ---- two tests of which one holds
 
@@ -182,3 +195,30 @@ characters-turn on s p block mask e =
       high = λ c b j h. at-unmasked on mask k xs block c b h (high-bits mask b m j);
       others = λ c y. at-others on mask k xs block c y;
     })
+
+-- ---- the test of the search
+
+pub tabled-bits : TabledBits
+unfolding inTables maskFits
+tabled-bits block mask x small =
+    let w : ℕ = getD block x 0 in
+    record {
+      is-tabled = λ e.
+          let r = some-bit (bitAnd w mask) (ltb-true 0 (bitAnd w mask) e) in
+          let a : min (bit (r .0) w) (bit (r .0) mask) ≡ 1 = sym (bit-and (r .0) w mask) ∙ r .1 in
+          let m : bit (r .0) mask ≡ 1 = omega (arith, bit-le (r .0) mask, bit-le (r .0) w) in
+          record {
+            table = r .0;
+            among36 = either 36 (r .0)
+                (λ (h : 36 ≤ r .0). absurd (omega (arith, bit-small (r .0) 36 mask h (ltb-true mask (2 ^ 36) small))))
+                (λ (h : r .0 < 36). h);
+            named = m;
+            has = omega (arith, bit-le (r .0) w);
+          };
+      tabled-is = λ t.
+          let a : bit (t .table) (bitAnd w mask) ≡ 1 = bit-and (t .table) w mask ∙ omega (arith, t .named, t .has) in
+          bool-case (ltb 0 (bitAnd w mask)) (λ e. e)
+          (λ e.
+          let z : bitAnd w mask ≡ 0 = omega (arith, ltb-false 0 (bitAnd w mask) e) in
+          absurd (omega (arith, rw z at a, bit-small (t .table) 0 0 (omega arith) (omega arith))));
+    }

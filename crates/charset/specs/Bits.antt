@@ -1,10 +1,11 @@
--- What the writers do, bit by bit: 01, "Character sets": in each masked table; all other bits stay. Assumes nothing.
+-- What the writers do and what the search looks at, bit by bit: 01, "Character sets". Assumes nothing.
 use Prim.Native.Nat.{ℕ, zero, suc, _/_, _%_, _≤_, _<_}
 use mathlib.Core.Path.{_≡_}
 use mathlib.Core.Bool.{Bool, true, false, cond, _||_}
 use mathlib.Core.List.{List, [], _∷_}
 use lib.Dec.{eqb}
 use lib.ListN.{length, getD}
+use Rattle.charset.specs.Sets.{maskFits, inTables}
 
 -- bit b of a word, counted from the lowest
 abbrev pub bit : ℕ → ℕ → ℕ
@@ -24,3 +25,18 @@ pub record Turns (on : Bool) (mask : ℕ) (meant : ℕ → Bool) (old new : List
   pub unmasked : (c b : ℕ) → b < 64 → bit b mask ≡ 0 → bit b (getD new c 0) ≡ bit b (getD old c 0)
   pub high : (c b : ℕ) → 36 ≤ b → b < 64 → bit b (getD new c 0) ≡ bit b (getD old c 0)
   pub others : (c : ℕ) → meant c ≡ false → getD new c 0 ≡ getD old c 0
+
+-- the character x is in a table that the mask names
+pub record Tabled (block : List ℕ) (mask x : ℕ) : Type 0 where
+  pub table : ℕ
+  pub among36 : table < 36
+  pub named : bit table mask ≡ 1
+  pub has : bit table (getD block x 0) ≡ 1
+
+-- the test of the search says exactly this, of every block and character and every mask under 2^36
+pub record TabledLaw (block : List ℕ) (mask x : ℕ) : Type 0 where
+  pub is-tabled : inTables block mask x ≡ true → Tabled block mask x
+  pub tabled-is : Tabled block mask x → inTables block mask x ≡ true
+
+abbrev pub TabledBits : Type 0
+TabledBits = (block : List ℕ) (mask x : ℕ) → maskFits mask ≡ true → TabledLaw block mask x

@@ -12,12 +12,6 @@ pub use tables::clear_tables;
 pub use tables::fill_tables;
 pub use tables::remove_characters;
 
-// Words in a block, one a character.
-pub const BLOCK_WORDS: usize = 128;
-
-// A mask is below 2^36.
-pub const MASK_END: u64 = 68719476736;
-
 pub enum SetAnswer {
     Done,
     Refused(u8),
@@ -39,8 +33,8 @@ fn set_refusal(store: &[u8], string: StrPtr, block: &[u64], mask: u64) -> u8
     ensures { λ r. ⌜ r ≡ setRefusal (now (store .entry)) string (now (block .entry)) mask ⌝ }
 {
     let found = strlib::check_store(store);
-    let found = strlib::check(found, 3, block.len() == BLOCK_WORDS);
-    let found = strlib::check(found, 3, mask < MASK_END);
+    let found = strlib::check(found, 3, block.len() == StrPtr::BLOCK_WORDS);
+    let found = strlib::check(found, 3, mask < StrPtr::MASK_END);
     let found = strlib::check_good(found, store.len(), string);
     strlib::check_readable(found, store, string)
 }

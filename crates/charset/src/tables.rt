@@ -66,8 +66,8 @@ fn turn_at(on: bool, mask: u64, text: &[u8], block: &mut [u64])
 fn block_refusal(block: &[u64], mask: u64) -> u8
     ensures { λ r. ⌜ r ≡ blockRefusal (now (block .entry)) mask ⌝ }
 {
-    let found = strlib::check(0, 3, block.len() == super::BLOCK_WORDS);
-    strlib::check(found, 3, mask < super::MASK_END)
+    let found = strlib::check(0, 3, block.len() == StrPtr::BLOCK_WORDS);
+    strlib::check(found, 3, mask < StrPtr::MASK_END)
 }
 
 fn turn_tables(on: bool, block: &mut [u64], mask: u64) -> SetAnswer

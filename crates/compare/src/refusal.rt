@@ -23,8 +23,8 @@ pub fn compare_refusal(
 {
     let n = store.len();
     let found = strlib::check_store(store);
-    let found = strlib::check(found, 3, code <= 5);
-    let found = strlib::check(found, 3, style <= 2);
+    let found = strlib::check(found, 3, code <= StrPtr::CODE_MAX);
+    let found = strlib::check(found, 3, style <= StrPtr::STYLE_MAX);
     let found = check_translation(found, translation);
     let found = strlib::check_good(found, n, string1);
     let found = strlib::check_good(found, n, string2);

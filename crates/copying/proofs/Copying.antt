@@ -1,8 +1,9 @@
--- Laws of copy and append: where no check fails, both places lie in the store, so that the leaf moves what the rule says. Assumes nothing.
+-- Laws of copy and append: where no check fails, both places lie in the store, so that the leaf moves what the rule
+-- says. Assumes nothing.
 use mathlib.Core.Path.{_≡_, refl, sym, _∙_}
-use mathlib.Core.Bool.{Bool, false}
-use mathlib.Core.List.{List, _++_, append-nil}
-use Prim.Native.Nat.{ℕ, _+_, _-_, _≤_, min}
+use mathlib.Core.Bool.{Bool, true, false}
+use mathlib.Core.List.{List, [], _∷_, _++_, append-nil}
+use Prim.Native.Nat.{ℕ, zero, suc, _+_, _-_, _≤_, min}
 use native.Mathlib.Omega.{arith}
 use lib.Dec.{leb}
 use lib.ListN.{length, take, drop, length-take, length-drop, length-append}
@@ -10,23 +11,42 @@ use lib.Seq.{take-all}
 use mir.Syntax.{w64}
 use mir.Val.{Fits}
 use borrow.Author.Needs.{needs}
-use Rattle.strlib.specs.Pointer.{sized, textOf}
-use Rattle.strlib.specs.Refusal.{refused, gives}
+use Rattle.strlib.specs.Checks.{intoChecks, intoRefusal}
+use Rattle.strlib.specs.Pointer.{sized, textOf, clear}
+use Rattle.strlib.specs.Refusal.{refused, gives, also, outcome, after, ruled}
 use Rattle.strlib.specs.Store.{put}
 use Rattle.strlib.specs.declared.StrPtr.{StrPtr}
-use Rattle.strlib.proofs.Pointing.{fits-is, good-is, text-length, leb-same}
-use Rattle.strlib.proofs.Refusing.{inTurn, first-is, Passed, passed, ruled-no, ruled-yes}
+use Rattle.strlib.proofs.Pointing.{good-is, text-length, leb-same}
+use Rattle.strlib.proofs.Checking.{first-on, first-both, IntoPassed, into-passed}
+use Rattle.strlib.proofs.Refusing.{passed, ruled-no, ruled-yes}
 use Rattle.strlib.proofs.Storing.{take-min, take-append, put-kept}
 use Rattle.moving.specs.Moving.{moved}
 use Rattle.moving.proofs.Moving.{moved-in}
-use Rattle.copying.specs.Copying.{gap, laid, wrote, boundedCopy, copyChecks, copyRefusal, copyRule, appendRule}
-use Rattle.copying.specs.Inner.{Ended, finished}
+use Rattle.copying.specs.Copying.{gap, laid, wrote, boundedCopy, finished, copyRefusal, copyRule, appendRule, PaddedAppend}
 use Rattle.copying.specs.declared.Wrote.{Wrote}
 use Rattle.copying.proofs.Padding.{bounded}
 
-pub copy-checked : (s : List ℕ) (destination source : StrPtr) (k : ℕ) → k ≡ inTurn 0 (copyChecks s destination source) → k ≡ copyRefusal s destination source
+-- ---- the checks
+
+pub copy-checked : (s : List ℕ) (destination source : StrPtr) (found : ℕ) → found ≡ intoRefusal s destination source
+    → (ok : Bool) → ok ≡ clear destination source → (k : ℕ) → k ≡ also found 5 ok → k ≡ copyRefusal s destination source
+unfolding copyRefusal intoRefusal
+copy-checked s destination source found e ok f k g =
+    first-on (intoChecks s destination source) ((5, clear destination source) ∷ []) refl refl found k e (rw (g, f))
+
+-- what is known where they find nothing
+pub record CopyPassed (s : List ℕ) (destination source : StrPtr) : Type 0 where
+  pub into : IntoPassed s destination source
+  pub apart : clear destination source ≡ true
+
+pub copy-passed : (s : List ℕ) (destination source : StrPtr) → copyRefusal s destination source ≡ 0 → CopyPassed s destination source
 unfolding copyRefusal
-copy-checked s destination source k e = first-is (copyChecks s destination source) refl k e
+copy-passed s destination source z =
+    let own : List (ℕ × Bool) = (5, clear destination source) ∷ [] in
+    let b = first-both (intoChecks s destination source) own refl z in
+    record { into = into-passed s destination source (b .0); apart = passed own refl (b .1) .0 }
+
+-- ---- the calls
 
 module _ (s : List ℕ) (destination source : StrPtr) (k : ℕ) (e : k ≡ copyRefusal s destination source) where
   pub copy-refused : (pad : Bool) → (k ≡ 0 → ⊥) → (refused k, s) ≡ copyRule s destination source pad
@@ -38,34 +58,27 @@ module _ (s : List ℕ) (destination source : StrPtr) (k : ℕ) (e : k ≡ copyR
   append-refused h = ruled-no k (copyRefusal s destination source) e _ _ s h
 
   module _ (z : k ≡ 0) where
-    ok : Passed (copyChecks s destination source)
-    unfolding copyRefusal
-    ok = passed (copyChecks s destination source) refl (sym e ∙ z)
+    ok : IntoPassed s destination source
+    ok = copy-passed s destination source (sym e ∙ z) .into
 
     to-room : (destination .length ≤ destination .maximum) × (destination .start + destination .maximum ≤ length s)
-    to-room = good-is (length s) destination (ok .1 .0)
+    to-room = good-is (length s) destination (ok .room)
 
     from-room : (source .length ≤ source .maximum) × (source .start + source .maximum ≤ length s)
-    from-room = good-is (length s) source (ok .1 .1 .0)
-
-    small : length s ≤ 65536
-    small = fits-is s (ok .0)
+    from-room = good-is (length s) source (ok .part)
 
     -- ---- copy
 
     module _ (n : ℕ) (m : n ≡ min (source .length) (destination .maximum)) where
-      pub copy-ends : (t : List ℕ) → length t ≡ length s → Ended (length t) destination n
-      copy-ends t l = record { small = omega (arith, small); good = rw l (ok .1 .0); fits = omega (arith, m) }
-
       pub copy-done : (pad : Bool) (r : Wrote) (t t′ : List ℕ) → t ≡ moved s (source .start) (destination .start) n
           → (r, t′) ≡ finished t destination n pad (leb (source .length) (destination .maximum)) → (gives r, t′) ≡ copyRule s destination source pad
       unfolding copyRule textOf
       copy-done pad r t t′ p q =
-          let l : length (textOf s source) ≡ source .length = text-length s source (ok .1 .1 .0) in
+          let l : length (textOf s source) ≡ source .length = text-length s source (ok .part) in
           let cut : take n (drop (source .start) s) ≡ take (destination .maximum) (textOf s source) = rw m (sym (take-min (destination .maximum) (source .length) (drop (source .start) s))) in
           let moves : t ≡ put s (destination .start) (take (destination .maximum) (textOf s source)) =
           p ∙ moved-in s (source .start) (destination .start) n (omega (arith, from-room, m)) (omega (arith, to-room, m)) ∙ rw cut in
-          bounded k (copyRefusal s destination source) s destination (textOf s source) pad (leb (source .length) (destination .maximum)) n r t′ e z (omega (arith, to-room))
+          bounded k (copyRefusal s destination source) s destination (textOf s source) pad (leb (source .length) (destination .maximum)) n r t′ e z (ok .room)
           (rw (length-take, l) (omega (arith, m))) (rw l) (q ∙ rw moves)
 
     -- ---- append
@@ -74,23 +87,23 @@ module _ (s : List ℕ) (destination source : StrPtr) (k : ℕ) (e : k ≡ copyR
     append-sub = to-room .0
 
     pub append-fits : Fits w64 (destination .start + destination .length)
-    append-fits = omega (arith, to-room, small)
+    append-fits = omega (arith, to-room, ok .small)
 
     module _ (n : ℕ) (m : n ≡ min (source .length) (destination .maximum - destination .length)) where
       pub append-sum : Fits w64 (destination .length + n)
-      append-sum = omega (arith, to-room, small, m)
+      append-sum = omega (arith, to-room, ok .small, m)
 
       xs : List ℕ
       xs = textOf s destination ++ textOf s source
 
       long : length xs ≡ destination .length + source .length
       unfolding xs
-      long = rw (length-append, text-length s destination (ok .1 .0), text-length s source (ok .1 .1 .0))
+      long = rw (length-append, text-length s destination (ok .room), text-length s source (ok .part))
 
       cut : laid destination xs false ≡ textOf s destination ++ take n (drop (source .start) s)
       unfolding laid gap xs textOf
       cut =
-          let l : length (textOf s destination) ≡ destination .length = text-length s destination (ok .1 .0) in
+          let l : length (textOf s destination) ≡ destination .length = text-length s destination (ok .room) in
           let a : take (destination .maximum) (textOf s destination) ≡ textOf s destination = take-all (destination .maximum) (textOf s destination) (omega (arith, to-room)) in
           rw (append-nil, take-append, a, l, take-min, ← m)
 
@@ -99,7 +112,7 @@ module _ (s : List ℕ) (destination source : StrPtr) (k : ℕ) (e : k ≡ copyR
       unfolding appendRule boundedCopy wrote xs textOf
       append-done to t p q =
           let w : length (take n (drop (source .start) s)) ≡ n = rw (length-take, length-drop) (omega (arith, from-room, m)) in
-          let g : length (laid destination xs false) ≡ destination .length + n = rw (cut, length-append, text-length s destination (ok .1 .0), w) in
+          let g : length (laid destination xs false) ≡ destination .length + n = rw (cut, length-append, text-length s destination (ok .room), w) in
           let b : leb (source .length) (destination .maximum - destination .length) ≡ leb (length xs) (destination .maximum) =
           leb-same (source .length) (destination .maximum - destination .length) (length xs) (destination .maximum) (λ h. omega (arith, long, to-room)) (λ h. omega (arith, long, to-room)) in
           let moves : t ≡ put s (destination .start + destination .length) (take n (drop (source .start) s)) =
@@ -107,6 +120,25 @@ module _ (s : List ℕ) (destination source : StrPtr) (k : ℕ) (e : k ≡ copyR
           ruled-yes k (copyRefusal s destination source) e _ _ t _ s z (rw (q, g, b))
           (moves ∙ rw (cut) (put-kept s (destination .start) (destination .length) (take n (drop (source .start) s)) (omega (arith, to-room))))
 
-pub ruleset copy-laws = (needs, copy-refused, copy-ends, copy-done)
+pub ruleset copy-laws = (needs, copy-checked, copy-refused, copy-done)
 
 pub ruleset append-laws = (needs, append-refused, append-sub, append-fits, append-sum, append-done)
+
+-- ---- a padded append
+
+same-laid : (destination : StrPtr) (xs : List ℕ) → destination .length ≤ destination .maximum → destination .length ≤ length xs
+    → laid destination xs true ≡ laid destination xs false
+unfolding laid gap
+same-laid destination xs h k =
+    let z : destination .length - length (take (destination .maximum) xs) ≡ 0 = rw length-take (omega arith) in rw z
+
+pub padded-append : PaddedAppend
+unfolding appendRule boundedCopy wrote ruled outcome after
+padded-append s destination source = go (copyRefusal s destination source) refl
+  where
+    go : (k : ℕ) → copyRefusal s destination source ≡ k
+        → boundedCopy k s destination (textOf s destination ++ textOf s source) true ≡ boundedCopy k s destination (textOf s destination ++ textOf s source) false
+    go zero e =
+        let g = copy-passed s destination source e .into .room in
+        rw (same-laid destination (textOf s destination ++ textOf s source) (good-is (length s) destination g .0) (rw length-append (omega (arith, text-length s destination g))))
+    go (suc k) e = refl

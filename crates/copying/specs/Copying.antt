@@ -1,23 +1,21 @@
--- Copy, append, and join of a list: 01, "Copying", first paragraph. Assumes nothing.
-use Prim.Native.Nat.{ℕ, _-_}
-use mathlib.Core.Bool.{Bool, false, cond}
+-- Copy and append: 01, "Copying", first paragraph. Assumes nothing.
+use Prim.Native.Nat.{ℕ, _+_, _-_}
+use mathlib.Core.Path.{_≡_}
+use mathlib.Core.Bool.{Bool, true, false, cond}
 use mathlib.Core.List.{List, [], _∷_, _++_}
 use lib.Dec.{leb}
 use lib.ListN.{length, take, replicate}
-use Rattle.strlib.specs.Pointer.{sized, storeFits, goodIn, textOf, texts, readable, clear, all}
+use Rattle.strlib.specs.Checks.{intoChecks}
+use Rattle.strlib.specs.Pointer.{sized, textOf, clear}
 use Rattle.strlib.specs.Refusal.{Outcome, refused, gives, first, ruled}
 use Rattle.strlib.specs.Store.{put}
 use Rattle.strlib.specs.declared.StrPtr.{StrPtr}
+use Rattle.moving.specs.Moving.{blanked}
 use Rattle.copying.specs.declared.Wrote.{Wrote}
 use Rattle.copying.specs.declared.CopyAnswer.{CopyAnswer}
 use Rattle.copying.specs.declared.CopyAnswer.the-variants.{Given, Refused}
 
 -- ---- what is written
-
--- texts one behind the other
-unfoldable pub joined : List (List ℕ) → List ℕ
-joined [] = []
-joined (x ∷ xss) = x ++ joined xss
 
 -- how many blanks fill a result of n characters to the old length
 unfoldable pub gap : Bool → ℕ → ℕ → ℕ
@@ -33,11 +31,18 @@ unfoldable pub wrote : StrPtr → List ℕ → Bool → Wrote
 wrote destination xs pad =
     record { to = sized destination (length (laid destination xs pad)); completed = leb (length xs) (destination .maximum) }
 
--- a bounded copy of the characters xs, where the checks found the number k: the answer, and the store, in which every byte past the new
--- length stays
+-- a bounded copy of the characters xs, where the checks found the number k: the answer, and the store, in which every
+-- byte past the new length stays
 unfoldable pub boundedCopy : ℕ → List ℕ → StrPtr → List ℕ → Bool → Outcome Wrote × List ℕ
 boundedCopy k s destination xs pad =
     ruled k (wrote destination xs pad) (put s (destination .start) (laid destination xs pad)) s
+
+-- how a bounded copy ends that wrote n characters at the front of the destination's room: blanks fill the gap behind
+-- them, where it lies in the store, and the new length counts them
+unfoldable pub finished : List ℕ → StrPtr → ℕ → Bool → Bool → Wrote × List ℕ
+finished s destination n pad completed =
+    let g : ℕ = gap pad (destination .length) n in
+    (record { to = sized destination (n + g); completed = completed }, blanked s (destination .start + n) g)
 
 -- the paper's value for each case of the answer
 abbrev pub copyAnswered : CopyAnswer → Outcome Wrote
@@ -48,8 +53,7 @@ copyAnswered (Refused n) = refused n
 
 -- the checks of a copy and of an append
 abbrev pub copyChecks : List ℕ → StrPtr → StrPtr → List (ℕ × Bool)
-copyChecks s destination source =
-    (3, storeFits s) ∷ (1, goodIn (length s) destination) ∷ (1, goodIn (length s) source) ∷ (2, readable s source) ∷ (5, clear destination source) ∷ []
+copyChecks s destination source = intoChecks s destination source ++ ((5, clear destination source) ∷ [])
 
 -- the number that they find, 0 for none
 unfoldable pub copyRefusal : List ℕ → StrPtr → StrPtr → ℕ
@@ -64,17 +68,8 @@ unfoldable pub appendRule : List ℕ → StrPtr → StrPtr → Outcome Wrote × 
 appendRule s destination source =
     boundedCopy (copyRefusal s destination source) s destination (textOf s destination ++ textOf s source) false
 
--- the checks of a join
-abbrev pub joinChecks : List ℕ → StrPtr → List StrPtr → ℕ → List (ℕ × Bool)
-joinChecks s destination list count =
-    (3, storeFits s) ∷ (3, leb count 32) ∷ (1, goodIn (length s) destination) ∷ (1, all (goodIn (length s)) (take count list))
-    ∷ (2, all (readable s) (take count list)) ∷ (5, all (clear destination) (take count list)) ∷ []
-
--- the number that they find, 0 for none
-unfoldable pub joinRefusal : List ℕ → StrPtr → List StrPtr → ℕ → ℕ
-joinRefusal s destination list count = first (joinChecks s destination list count)
-
--- a join writes the characters of the first `count` strings of the list
-unfoldable pub joinRule : List ℕ → StrPtr → List StrPtr → ℕ → Bool → Outcome Wrote × List ℕ
-joinRule s destination list count pad =
-    boundedCopy (joinRefusal s destination list count) s destination (joined (texts s (take count list))) pad
+-- a padded append would be an append: what is written is never shorter than the destination was
+abbrev pub PaddedAppend : Type 0
+PaddedAppend =
+    (s : List ℕ) (destination source : StrPtr)
+    → boundedCopy (copyRefusal s destination source) s destination (textOf s destination ++ textOf s source) true ≡ appendRule s destination source

@@ -1,5 +1,2 @@
 pub mod Copying
-pub mod Resuming
-pub mod RoundRule
-pub mod Inner
 pub mod Examples

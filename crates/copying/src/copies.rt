@@ -8,11 +8,7 @@ ghost use Rattle.copying.specs.Copying.{copyRefusal, copyRule, appendRul
 fn copy_refusal(store: &[u8], destination: StrPtr, source: StrPtr) -> u8
     ensures { λ r. ⌜ r ≡ copyRefusal (now (store .entry)) destination source ⌝ }
 {
-    let n = store.len();
-    let found = strlib::check_store(store);
-    let found = strlib::check_good(found, n, destination);
-    let found = strlib::check_good(found, n, source);
-    let found = strlib::check_readable(found, store, source);
+    let found = strlib::check_into(store, destination, source);
     strlib::check(found, 5, strlib::is_clear(destination, source))
 }
 

@@ -1,22 +1,14 @@
-// Bounded copying: copy, append, join of a list, and the checkpointed join.
-use strlib::StrList;
+// Bounded copying: copy and append.
 use strlib::StrPtr;
 
 mod copies;
-mod joins;
-mod rounds;
 
 ghost use mathlib.Core.Path.{_≡_};
-ghost use Prim.Native.Nat.{_+_, _≤_};
-ghost use lib.ListN.{length, take};
-ghost use Rattle.strlib.specs.Pointer.{sized};
-ghost use Rattle.copying.specs.Copying.{gap};
-ghost use Rattle.copying.specs.Resuming.{resumed};
-ghost use Rattle.copying.specs.Inner.{Ended, finished, Next, movedNext, Resumable};
+ghost use Prim.Native.Nat.{_+_};
+ghost use Rattle.moving.specs.Moving.{blanked};
+ghost use Rattle.copying.specs.Copying.{gap, finished};
 pub use copies::append;
 pub use copies::copy;
-pub use joins::join;
-pub use rounds::join_from;
 
 // What a bounded copy gives: the destination with its new length, and whether nothing was cut.
 pub struct Wrote {
@@ -26,25 +18,6 @@ pub struct Wrote {
 
 pub enum CopyAnswer {
     Given(Wrote),
-    Refused(u8),
-}
-
-// A resume place: a string of the list and a character in it, both from 1. It crosses the C boundary as it is.
-#[repr(C)]
-pub struct Place {
-    pub string: usize,
-    pub character: usize,
-}
-
-// What a checkpointed join gives, with the place at which the next round resumes.
-pub struct Round {
-    pub to: StrPtr,
-    pub completed: bool,
-    pub next: Place,
-}
-
-pub enum RoundAnswer {
-    Given(Round),
     Refused(u8),
 }
 
@@ -59,72 +32,22 @@ fn gap_of(pad: bool, old: usize, n: usize) -> usize
     }
 }
 
-// Pads the n characters that were written, and gives the answer.
-fn finish(store: &mut [u8], destination: StrPtr, n: usize, pad: bool, completed: bool) -> Wrote
-    requires { ⌜ Ended (length (now store)) destination n ⌝ }
+// Writes g blanks from behind the first n bytes of a room on, where these lie in the store.
+fn pad_behind(store: &mut [u8], start: usize, n: usize, g: usize)
+    ensures { λ _. ⌜ now (store .exit) ≡ blanked (now (store .entry)) (start + n) g ⌝ }
+{
+    if strlib::is_within(store.len(), start, n) {
+        moving::fill_blanks(store, start + n, g)
+    }
+}
+
+// Ends a bounded copy that wrote n characters at the front of the destination's room: pads them, and gives the answer.
+// It takes any numbers; blanks that would lie outside the store are not written.
+pub fn finish(store: &mut [u8], destination: StrPtr, n: usize, pad: bool, completed: bool) -> Wrote
     ensures { λ r. ⌜ (r, now (store .exit)) ≡ finished (now (store .entry)) destination n pad completed ⌝ }
 {
     let g = gap_of(pad, destination.length, n);
-    moving::fill_blanks(store, destination.start + n, g);
+    pad_behind(store, destination.start, n, g);
     let to = destination.sized(n + g);
     Wrote { to, completed }
-}
-
-fn round_at(
-    destination: StrPtr,
-    n: usize,
-    completed: bool,
-    string: usize,
-    character: usize,
-) -> Round
-    ensures { λ r. ⌜ r ≡ record { to = sized destination n; completed = completed; next = record { string = string; character = character } } ⌝ }
-{
-    let to = destination.sized(n);
-    let next = Place { string, character };
-    Round {
-        to,
-        completed,
-        next,
-    }
-}
-
-// Moves the characters of a source from behind its first q, as many as fit behind the n that the destination holds: how many.
-fn move_next(store: &mut [u8], destination: StrPtr, n: usize, source: StrPtr, q: usize) -> usize
-    requires { ⌜ Next (length (now store)) destination n source q ⌝ }
-    ensures { λ r. ⌜ (r, now (store .exit)) ≡ movedNext (now (store .entry)) destination n source q ⌝ }
-    ensures { λ r. ⌜ (n + r ≤ 65536) × (q + r ≤ 65536) ⌝ }
-{
-    let m = moving::least(source.length - q, destination.maximum - n);
-    moving::move_characters(store, source.start + q, destination.start + n, m);
-    m
-}
-
-// Fills the destination with the characters of the listed strings, cut at its maximum, from behind the first `skip`
-// characters of the string at index `first` on. One pass: each turn moves what is left of one string, or what still fits.
-fn fill(
-    store: &mut [u8],
-    destination: StrPtr,
-    list: StrList,
-    count: usize,
-    first: usize,
-    skip: usize,
-) -> Round
-    requires { ⌜ Resumable (now store) destination list count first skip ⌝ }
-    ensures { λ r. ⌜ (r, now (store .exit)) ≡ resumed (now (store .entry)) destination (take count list) first skip ⌝ }
-{
-    let mut n = 0;
-    let mut i = first;
-    let mut q = skip;
-    while i < count {
-        let source = list[i];
-        let m = move_next(store, destination, n, source, q);
-        n += m;
-        q += m;
-        if q < source.length {
-            return round_at(destination, n, false, i + 1, q + 1);
-        }
-        i += 1;
-        q = 0;
-    }
-    round_at(destination, n, true, count + 1, 1)
 }

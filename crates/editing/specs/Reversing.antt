@@ -1,9 +1,10 @@
 -- Reverse, in place or from a source: 01, "Copying", third paragraph. Assumes nothing.
 use Prim.Native.Nat.{ℕ}
 use mathlib.Core.Bool.{Bool}
-use mathlib.Core.List.{List, [], _∷_}
+use mathlib.Core.List.{List, [], _∷_, _++_}
 use lib.Dec.{leb}
 use lib.ListN.{length}
+use Rattle.strlib.specs.Checks.{intoChecks}
 use Rattle.strlib.specs.Pointer.{sized, storeFits, goodIn, textOf, readable, clear}
 use Rattle.strlib.specs.Refusal.{Outcome, first, ruled}
 use Rattle.strlib.specs.Store.{put}
@@ -25,8 +26,7 @@ reverseRule s string = ruled (reverseRefusal s string) string (put s (string .st
 -- the checks of a reversal from a source; a source over the destination's maximum gives 6
 abbrev pub reverseFromChecks : List ℕ → StrPtr → StrPtr → List (ℕ × Bool)
 reverseFromChecks s destination source =
-    (3, storeFits s) ∷ (1, goodIn (length s) destination) ∷ (1, goodIn (length s) source) ∷ (2, readable s source)
-    ∷ (5, clear destination source) ∷ (6, leb (source .length) (destination .maximum)) ∷ []
+    intoChecks s destination source ++ ((5, clear destination source) ∷ (6, leb (source .length) (destination .maximum)) ∷ [])
 
 -- the number that they find, 0 for none
 unfoldable pub reverseFromRefusal : List ℕ → StrPtr → StrPtr → ℕ

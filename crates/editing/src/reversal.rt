@@ -27,11 +27,7 @@ pub fn reverse(store: &mut [u8], string: StrPtr) -> StrAnswer
 fn reverse_from_refusal(store: &[u8], destination: StrPtr, source: StrPtr) -> u8
     ensures { λ r. ⌜ r ≡ reverseFromRefusal (now (store .entry)) destination source ⌝ }
 {
-    let n = store.len();
-    let found = strlib::check_store(store);
-    let found = strlib::check_good(found, n, destination);
-    let found = strlib::check_good(found, n, source);
-    let found = strlib::check_readable(found, store, source);
+    let found = strlib::check_into(store, destination, source);
     let found = strlib::check(found, 5, strlib::is_clear(destination, source));
     strlib::check(found, 6, source.length <= destination.maximum)
 }

@@ -8,13 +8,13 @@ use Rattle.strlib.specs.declared.StrPtr.{StrPtr}
 use Rattle.strlib.specs.declared.StrAnswer.{StrAnswer}
 use Rattle.strlib.specs.declared.StrAnswer.the-variants.{Given, Refused}
 use Rattle.copying.specs.Copying.{copyAnswered}
-use Rattle.copying.specs.Resuming.{roundAnswered}
+use Rattle.joining.specs.Resuming.{roundAnswered}
 use Rattle.copying.specs.declared.Wrote.{Wrote}
 use Rattle.copying.specs.declared.CopyAnswer.{CopyAnswer}
 use Rattle.copying.specs.declared.CopyAnswer.the-variants.{Given as Copied, Refused as Uncopied}
-use Rattle.copying.specs.declared.Round.{Round}
-use Rattle.copying.specs.declared.RoundAnswer.{RoundAnswer}
-use Rattle.copying.specs.declared.RoundAnswer.the-variants.{Given as Resumed, Refused as Unresumed}
+use Rattle.joining.specs.declared.Round.{Round}
+use Rattle.joining.specs.declared.RoundAnswer.{RoundAnswer}
+use Rattle.joining.specs.declared.RoundAnswer.the-variants.{Given as Resumed, Refused as Unresumed}
 use Rattle.flat.specs.Strings.{noString, noPlace, flatString, flatCopied, flatRound, flatPart, flatLabel}
 use Rattle.flat.specs.declared.strings.FlatString.{FlatString}
 use Rattle.flat.specs.declared.strings.FlatCopied.{FlatCopied}

@@ -10,8 +10,8 @@ use Rattle.cutting.specs.Cutting.{blanks}
 use Rattle.cutting.specs.Part.{sliceCut}
 use Rattle.cutting.specs.declared.Cut.the-variants.{Trimmed}
 use Rattle.copying.specs.declared.Wrote.{Wrote}
-use Rattle.copying.specs.declared.Place.{Place}
-use Rattle.copying.specs.declared.Round.{Round}
+use Rattle.joining.specs.declared.Place.{Place}
+use Rattle.joining.specs.declared.Round.{Round}
 use Rattle.flat.specs.declared.strings.FlatString.{FlatString}
 use Rattle.flat.specs.declared.strings.FlatCopied.{FlatCopied}
 use Rattle.flat.specs.declared.strings.FlatRound.{FlatRound}

@@ -1,13 +1,13 @@
 // Strings, what a bounded copy gives, and parts of lent bytes.
 use copying::CopyAnswer;
-use copying::Place;
-use copying::RoundAnswer;
+use joining::Place;
+use joining::RoundAnswer;
 use strlib::StrAnswer;
 use strlib::StrPtr;
 ghost use mathlib.Core.Path.{_≡_};
 ghost use Rattle.strlib.specs.Refusal.{answered};
 ghost use Rattle.copying.specs.Copying.{copyAnswered};
-ghost use Rattle.copying.specs.Resuming.{roundAnswered};
+ghost use Rattle.joining.specs.Resuming.{roundAnswered};
 ghost use Rattle.flat.specs.Strings.{flatString, flatCopied, flatRound, flatPart, flatLabel};
 
 #[repr(C)]

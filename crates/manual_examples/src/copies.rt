@@ -1,7 +1,7 @@
 // 3.0, 3.2 and 5.2, the copying routines.
 use copying::CopyAnswer;
-use copying::Place;
-use copying::RoundAnswer;
+use joining::Place;
+use joining::RoundAnswer;
 use saying::end_line;
 use saying::say;
 use saying::say_number;
@@ -39,7 +39,7 @@ fn append(name: &[u8], store: &mut [u8], destination: StrPtr, source: StrPtr) ->
 }
 
 fn join(name: &[u8], store: &mut [u8], to: StrPtr, list: StrList, count: usize, pad: bool) {
-    let r = copying::join(store, to, list, count, pad);
+    let r = joining::join(store, to, list, count, pad);
     show_copied(name, store, r);
 }
 
@@ -121,7 +121,7 @@ fn round(number: usize, store: &mut [u8], from: Place) -> Place {
     list[1] = StrPtr::full(5, 5);
     list[2] = StrPtr::full(10, 5);
     list[3] = StrPtr::full(15, 5);
-    let r = copying::join_from(store, StrPtr::new(20, 0, 7), list, 4, from);
+    let r = joining::join_from(store, StrPtr::new(20, 0, 7), list, 4, from);
     show_round(store, r, from)
 }
 

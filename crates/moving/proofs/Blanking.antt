@@ -1,16 +1,14 @@
 -- Laws of blanks: each turn puts one blank more behind those written. Assumes nothing.
 use mathlib.Core.Path.{_≡_, sym, _∙_}
-use mathlib.Core.Bool.{Bool, true, false}
 use mathlib.Core.List.{List, [], _∷_, _++_}
 use Prim.Native.Nat.{ℕ, _+_, _≤_, _<_}
 use native.Mathlib.Omega.{arith}
 use lib.ListN.{length, set, replicate, length-replicate, replicate-append-replicate}
 use borrow.Author.Needs.{needs}
-use Rattle.strlib.proofs.Pointing.{within-so, is-within}
-use Rattle.strlib.specs.Pointer.{within}
 use Rattle.strlib.specs.Store.{put}
 use Rattle.strlib.proofs.Storing.{put-none, put-more}
 use Rattle.moving.specs.Moving.{blanked}
+use Rattle.moving.proofs.Writing.{written-in, written-out}
 
 -- i blanks written
 unfoldable pub blanks : List ℕ → ℕ → ℕ → List ℕ
@@ -33,18 +31,15 @@ module _ (s t : List ℕ) (at n i : ℕ) (e : t ≡ blanks s at i) (ht : at + n 
   unfolding blanks
   blanks-end h k = let j : i ≡ n = omega arith in e ∙ rw j
 
+-- ---- the leaf
+
 module _ (s : List ℕ) (at n : ℕ) where
-  -- within the store it is what `put` writes
   pub blanked-in : at + n ≤ length s → blanked s at n ≡ put s at (replicate n 32)
   unfolding blanked
-  blanked-in h = rw (is-within (length s) at n h)
+  blanked-in = written-in s at n (replicate n 32)
 
-  module _ (b : Bool) (e : b ≡ within (length s) at n) where
-    pub blanked-none : b ≡ false → s ≡ blanked s at n
-    unfolding blanked
-    blanked-none f = rw (← e, f)
+  pub blanked-out : length s < at + n → blanked s at n ≡ s
+  unfolding blanked
+  blanked-out = written-out s at n (replicate n 32)
 
-    pub blanked-yes : (t : List ℕ) → t ≡ put s at (replicate n 32) → b ≡ true → t ≡ blanked s at n
-    blanked-yes t p f = p ∙ sym (blanked-in (within-so (length s) at n b e f))
-
-pub ruleset blank-laws = (needs, within-so, blanks-none, blanks-more, blanks-end, blanked-none, blanked-yes)
+pub ruleset blank-laws = (needs, blanks-none, blanks-more, blanks-end)

@@ -1,5 +1,5 @@
--- A write within a room leaves each string that is clear of the room as it was: it lies before what is written, or behind it, or one of
--- the two is empty. Assumes nothing.
+-- A write within a room leaves each string that is clear of the room as it was: it lies before what is written, or
+-- behind it, or one of the two is empty. Assumes nothing.
 use mathlib.Core.Path.{_≡_, refl}
 use mathlib.Core.Bool.{true}
 use mathlib.Core.List.{List, [], _∷_}

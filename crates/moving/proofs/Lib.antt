@@ -1,4 +1,5 @@
 pub mod Moving
+pub mod Writing
 pub mod Blanking
 pub mod Turning
 pub mod Keeping

@@ -1,5 +1,5 @@
--- Laws of the moving leaf. What is moved is what `put` writes, a byte more each turn: behind it for a move towards the front, in
--- front of it for a move towards the back; the bytes still to be read are as they were. Assumes nothing.
+-- Laws of the moving leaf. What is moved is what `put` writes, a byte more each turn: behind it for a move towards the
+-- front, in front of it for a move towards the back; the bytes still to be read are as they were. Assumes nothing.
 use mathlib.Core.Path.{_≡_, sym, ap, _∙_}
 use mathlib.Core.Bool.{Bool, true, false, and-false}
 use mathlib.Core.List.{List, [], _∷_, _++_}
@@ -57,9 +57,9 @@ unfolding up
 up-none s from to n = rw sub-self (sym (put-none s (to + n)))
 
 module _ (s t : List ℕ) (from to n i : ℕ) (e : t ≡ up s from to n i) (ht : to + n ≤ length s) (hf : from ≤ to) where
-  pub up-more : 0 < i → i ≤ n → set t (to + (i - 1)) (getD t (from + (i - 1)) 0) ≡ up s from to n (i - 1)
+  pub up-more : (j : ℕ) → j < i → i ≤ n → set t (to + (i - 1)) (getD t (from + (i - 1)) 0) ≡ up s from to n (i - 1)
   unfolding up
-  up-more h k =
+  up-more _ h k =
       let j : ℕ = i - 1 in
       let xs : List ℕ = take (n - i) (drop (from + i) s) in
       let l : length xs ≡ n - i = rw (length-take, length-drop) (omega arith) in

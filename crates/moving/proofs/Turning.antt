@@ -1,18 +1,16 @@
--- Laws of reversal. The reversal of what is left is the reversal of the whole: a turn changes the outer two over, and what is left lies
--- between them. Assumes nothing.
+-- Laws of reversal. The reversal of what is left is the reversal of the whole: a turn changes the outer two over, and
+-- what is left lies between them. Assumes nothing.
 use mathlib.Core.Path.{_≡_, refl, sym, ap, _∙_}
-use mathlib.Core.Bool.{Bool, true, false}
 use mathlib.Core.List.{List, [], _∷_, _++_, append-assoc}
 use Prim.Native.Nat.{ℕ, suc, _+_, _-_, _≤_, _<_}
 use native.Mathlib.Omega.{arith}
 use lib.ListN.{length, take, drop, getD, set, length-take, length-drop, length-append, length-set}
 use lib.Seq.{take-at, drop-at, set-at, split-at, drop-drop, getD-drop}
 use borrow.Author.Needs.{needs}
-use Rattle.strlib.proofs.Pointing.{within-so, is-within}
-use Rattle.strlib.specs.Pointer.{within}
 use Rattle.strlib.specs.Store.{put}
 use Rattle.strlib.proofs.Storing.{put-same, put-over, put-length, part-put}
 use Rattle.moving.specs.Moving.{reversed, reversedAt}
+use Rattle.moving.proofs.Writing.{written-in}
 
 -- the m bytes from index a on reversed
 unfoldable pub turned : List ℕ → ℕ → ℕ → List ℕ
@@ -111,19 +109,9 @@ turn-room t a m v e w h k = rw (length-set, length-set) (omega arith)
 
 -- ---- the leaf
 
-module _ (s : List ℕ) (at n : ℕ) where
-  -- within the store it is what `put` writes
-  pub reversed-in : at + n ≤ length s → reversedAt s at n ≡ put s at (reversed (take n (drop at s)))
-  unfolding reversedAt
-  reversed-in h = rw (is-within (length s) at n h)
-
-  module _ (b : Bool) (e : b ≡ within (length s) at n) where
-    pub reversed-none : b ≡ false → s ≡ reversedAt s at n
-    unfolding reversedAt
-    reversed-none f = rw (← e, f)
-
-    pub reversed-yes : (t : List ℕ) → t ≡ put s at (reversed (take n (drop at s))) → b ≡ true → t ≡ reversedAt s at n
-    reversed-yes t p f = p ∙ sym (reversed-in (within-so (length s) at n b e f))
+pub reversed-in : (s : List ℕ) (at n : ℕ) → at + n ≤ length s → reversedAt s at n ≡ put s at (reversed (take n (drop at s)))
+unfolding reversedAt
+reversed-in s at n = written-in s at n (reversed (take n (drop at s)))
 
 -- characters put and then reversed
 pub reversed-put : (s : List ℕ) (at : ℕ) (xs : List ℕ) → at + length xs ≤ length s → reversedAt (put s at xs) at (length xs) ≡ put s at (reversed xs)
@@ -132,4 +120,4 @@ reversed-put s at xs h =
     reversed-in (put s at xs) at (length xs) (omega arith)
     ∙ rw (part-put s at xs (omega arith)) (put-over s at xs (omega arith) (reversed xs) (omega (arith, reversed-length xs)))
 
-pub ruleset turn-laws = (needs, within-so, turn-in, turn-length, turn-room, turn-step, turn-end, reversed-none, reversed-yes)
+pub ruleset turn-laws = (needs, turn-in, turn-length, turn-room, turn-step, turn-end)

@@ -1,6 +1,6 @@
 -- What moving, blanks, bytes and reversal leave in a store: 01, "Copying". Outside the store nothing is written. Assumes nothing.
 use Prim.Native.Nat.{ℕ, _+_}
-use mathlib.Core.Bool.{Bool, cond, _&&_}
+use mathlib.Core.Bool.{cond, _&&_}
 use mathlib.Core.List.{List, [], _∷_, _++_}
 use lib.ListN.{length, take, drop, replicate}
 use Rattle.strlib.specs.Pointer.{within}
@@ -10,9 +10,13 @@ use Rattle.strlib.specs.Store.{put}
 unfoldable pub moved : List ℕ → ℕ → ℕ → ℕ → List ℕ
 moved s from to n = cond (within (length s) from n && within (length s) to n) (put s to (take n (drop from s))) s
 
+-- s with ys written over its n bytes from index at on
+abbrev pub written : List ℕ → ℕ → ℕ → List ℕ → List ℕ
+written s at n ys = cond (within (length s) at n) (put s at ys) s
+
 -- s with n blanks written from index at on
 unfoldable pub blanked : List ℕ → ℕ → ℕ → List ℕ
-blanked s at n = cond (within (length s) at n) (put s at (replicate n 32)) s
+blanked s at n = written s at n (replicate n 32)
 
 -- s with bytes written from index at on
 unfoldable pub pasted : List ℕ → ℕ → List ℕ → List ℕ
@@ -25,4 +29,4 @@ reversed (x ∷ xs) = reversed xs ++ (x ∷ [])
 
 -- s with its n characters from index at on reversed
 unfoldable pub reversedAt : List ℕ → ℕ → ℕ → List ℕ
-reversedAt s at n = cond (within (length s) at n) (put s at (reversed (take n (drop at s)))) s
+reversedAt s at n = written s at n (reversed (take n (drop at s)))

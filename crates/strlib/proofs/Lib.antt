@@ -3,3 +3,4 @@ pub mod Pointing
 pub mod Listing
 pub mod Texts
 pub mod Storing
+pub mod Checking

@@ -2,4 +2,5 @@ pub mod Pointer
 pub mod Quoted
 pub mod Refusal
 pub mod Store
+pub mod Checks
 pub mod Inner

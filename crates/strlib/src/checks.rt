@@ -6,6 +6,7 @@ ghost use mathlib.Core.Bool.{_&&_};
 ghost use mathlib.Core.Path.{_≡_};
 ghost use Rattle.strlib.specs.Pointer.{storeFits, goodIn, characters, readable};
 ghost use Rattle.strlib.specs.Refusal.{also};
+ghost use Rattle.strlib.specs.Checks.{intoRefusal};
 
 // Both tests as one, so that a range is one check.
 pub fn both(a: bool, b: bool) -> bool
@@ -49,4 +50,15 @@ pub fn check_readable(found: u8, store: &[u8], p: StrPtr) -> u8
     ensures { λ r. ⌜ r ≡ also found 2 (readable (now (store .entry)) p) ⌝ }
 {
     check_characters(found, strings::text(store, p))
+}
+
+// The first checks of a call that writes a source's characters into a destination's room.
+pub fn check_into(store: &[u8], destination: StrPtr, source: StrPtr) -> u8
+    ensures { λ r. ⌜ r ≡ intoRefusal (now (store .entry)) destination source ⌝ }
+{
+    let n = store.len();
+    let found = check_store(store);
+    let found = check_good(found, n, destination);
+    let found = check_good(found, n, source);
+    check_readable(found, store, source)
 }

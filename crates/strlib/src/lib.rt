@@ -9,6 +9,7 @@ pub use checks::both;
 pub use checks::check;
 pub use checks::check_characters;
 pub use checks::check_good;
+pub use checks::check_into;
 pub use checks::check_readable;
 pub use checks::check_store;
 pub use lists::check_all_clear;
@@ -49,13 +50,27 @@ impl StrPtr {
 
     pub const LIST_CHARACTERS_MAX: usize = 240;
 
-    // Words of sixteen bits in a table.
+    // Words of sixteen bits in a table's room, and a table's states.
     pub const TABLE_MIN: usize = 31461;
+
+    pub const STATES_MIN: usize = 2;
+
+    pub const STATES_MAX: usize = 242;
+
+    // The greatest code and the greatest style of a comparison.
+    pub const CODE_MAX: usize = 5;
+
+    pub const STYLE_MAX: usize = 2;
 
     // The range of a translation.
     pub const TRANSLATION_MIN: i64 = -127;
 
     pub const TRANSLATION_MAX: i64 = 127;
+
+    // Words in a block of character sets, one a character; a mask is below 2^36.
+    pub const BLOCK_WORDS: usize = 128;
+
+    pub const MASK_END: u64 = 68719476736;
 
     pub const BASE_MIN: usize = 2;
 

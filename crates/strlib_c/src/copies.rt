@@ -1,12 +1,13 @@
 // Bounded copying.
-use copying::Place;
 use flat::FlatCopied;
 use flat::FlatList;
 use flat::FlatRound;
+use joining::Place;
 use strlib::StrPtr;
 ghost use mathlib.Core.Path.{_≡_};
-ghost use Rattle.copying.specs.Copying.{copyRule, appendRule, joinRule};
-ghost use Rattle.copying.specs.Resuming.{joinFromRule};
+ghost use Rattle.copying.specs.Copying.{copyRule, appendRule};
+ghost use Rattle.joining.specs.Joining.{joinRule};
+ghost use Rattle.joining.specs.Resuming.{joinFromRule};
 ghost use Rattle.flat.specs.Strings.{flatWith, flatCopied, flatRound};
 
 #[no_mangle]
@@ -38,7 +39,7 @@ pub extern "C" fn strlib_join(
     ensures { λ r. ⌜ (r, now (store .exit)) ≡ flatWith flatCopied (joinRule (now (store .entry)) destination (list .items) (list .count) pad) ⌝ }
 {
     let items = list.items;
-    flat::copied(copying::join(store, destination, items, list.count, pad))
+    flat::copied(joining::join(store, destination, items, list.count, pad))
 }
 
 #[no_mangle]
@@ -51,5 +52,5 @@ pub extern "C" fn strlib_join_from(
     ensures { λ r. ⌜ (r, now (store .exit)) ≡ flatWith flatRound (joinFromRule (now (store .entry)) destination (list .items) (list .count) from) ⌝ }
 {
     let items = list.items;
-    flat::round(copying::join_from(store, destination, items, list.count, from))
+    flat::round(joining::join_from(store, destination, items, list.count, from))
 }

@@ -39,11 +39,6 @@ pub enum RunAnswer {
     Refused(u8),
 }
 
-// States of a table.
-const STATES_MIN: usize = 2;
-
-const STATES_MAX: usize = 242;
-
 // Words of a state: the next states by character, then the string's number, then the length.
 pub const STATE_WORDS: usize = 130;
 

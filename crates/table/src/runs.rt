@@ -17,10 +17,10 @@ pub(super) fn is_sized(table: &[u16]) -> bool
     ensures { λ r. ⌜ r ≡ isSized (now (table .entry)) ⌝ }
 {
     let size = super::size_of(table);
-    if size < super::STATES_MIN {
+    if size < StrPtr::STATES_MIN {
         return false;
     }
-    if super::STATES_MAX < size {
+    if StrPtr::STATES_MAX < size {
         return false;
     }
     1 + super::STATE_WORDS * size <= table.len()

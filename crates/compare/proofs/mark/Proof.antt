@@ -1,6 +1,6 @@
 use mathlib.Core.Path.{_≡_}
-use mathlib.Core.Bool.{Bool, true, false, Bool·beq}
-use mathlib.Core.List.{List, [], _∷_}
+use mathlib.Core.Bool.{Bool, false, Bool·beq}
+use mathlib.Core.List.{List, [], _∷_, map}
 use Prim.Native.Nat.{ℕ, _<_}
 use borrow.Author.Needs.{needs}
 use native.Mathlib.Omega.{arith}
@@ -10,21 +10,19 @@ use Rattle.compare.proofs.Table.{every-at, every, beq-eq}
 use Rattle.compare.proofs.mark.Statement.{statement}
 use Rattle.compare.proofs.mark.Tie as tie
 
-row : Bool → Bool → Bool → List Bool
-row a b c = a ∷ b ∷ c ∷ []
-
+-- the meaning's own marks, for each code those of less, equal and greater: antt computes them, and the code's table with them
 marks : List (List Bool)
-marks = row false true false ∷ row true false true ∷ row false true true ∷ row true true false ∷ row false false true ∷ row true false false ∷ []
+marks = map (λ code. map (holds code) (0 ∷ 1 ∷ 2 ∷ [])) (0 ∷ 1 ∷ 2 ∷ 3 ∷ 4 ∷ 5 ∷ [])
 
 same : ℕ → ℕ → Bool
 same code o = Bool·beq (getD (getD marks code []) o false) (holds code o)
 
 meaning : (code o : ℕ) → code < 6 → o < 3 → getD (getD marks code []) o false ≡ holds code o
-unfolding marks row same holds
+unfolding marks same holds
 meaning code o h k = beq-eq _ _ (every-at (same code) 3 (every-at (λ c. every (same c) 3) 6 tt code h) o k)
 
 returns : tie.Need-returns
-unfolding marks row
+unfolding marks holds
 returns c = meaning (c .before .args .code) (c .before .args .order) (omega arith) (omega arith)
 
 pub mark-spec : {M : Type 1} → statement M

@@ -7,7 +7,6 @@ finish-spec =
     tie.close
     (tie.spec
     (λ c κs. tt)
-    (λ c. search pad-laws)
     (λ c κs. tt)
     (λ c. search pad-laws)
     (λ c κs. tt)

@@ -11,6 +11,6 @@ copy-spec =
     (λ c. search copy-laws)
     (λ c κs. tt)
     (λ c κs. tt)
-    (λ c κs. search copy-laws)
+    (λ c κs. tt)
     (λ c. search copy-laws)
     (λ c. search copy-laws))

@@ -1,4 +1,4 @@
-use Rattle.copying.proofs.Copying.{copy-checked}
+use Rattle.copying.proofs.Copying.{copy-laws}
 use Rattle.copying.proofs.copies.copy_refusal.Statement.{statement}
 use Rattle.copying.proofs.copies.copy_refusal.Tie as tie
 
@@ -9,7 +9,4 @@ copy-refusal-spec =
     (λ c κs. tt)
     (λ c κs. tt)
     (λ c κs. tt)
-    (λ c κs. tt)
-    (λ c κs. tt)
-    (λ c κs. tt)
-    (λ c. copy-checked _ _ _ _ (cc)))
+    (λ c. search copy-laws))

@@ -1,3 +1,4 @@
+use Rattle.editing.proofs.Replacing.{part-laws}
 use Rattle.editing.proofs.replacement.check_places.Statement.{statement}
 use Rattle.editing.proofs.replacement.check_places.Tie as tie
 
@@ -11,4 +12,4 @@ check-places-spec =
     (λ c κs. tt)
     (λ c κs. tt)
     (λ c κs. tt)
-    (λ c. cc))
+    (λ c. search part-laws))

@@ -1,4 +1,4 @@
-use Rattle.editing.proofs.Replacing.{replace-checked}
+use Rattle.editing.proofs.Replacing.{replace-laws}
 use Rattle.editing.proofs.replacement.replace_refusal.Statement.{statement}
 use Rattle.editing.proofs.replacement.replace_refusal.Tie as tie
 
@@ -13,4 +13,4 @@ replace-refusal-spec =
     (λ c κs. tt)
     (λ c κs. tt)
     (λ c κs. tt)
-    (λ c. replace-checked _ _ _ _ _ (cc)))
+    (λ c. search replace-laws))

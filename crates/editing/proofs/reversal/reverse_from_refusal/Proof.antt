@@ -1,4 +1,4 @@
-use Rattle.editing.proofs.Reversing.{reverse-from-checked}
+use Rattle.editing.proofs.Reversing.{reverse-laws}
 use Rattle.editing.proofs.reversal.reverse_from_refusal.Statement.{statement}
 use Rattle.editing.proofs.reversal.reverse_from_refusal.Tie as tie
 
@@ -10,7 +10,4 @@ reverse-from-refusal-spec =
     (λ c κs. tt)
     (λ c κs. tt)
     (λ c κs. tt)
-    (λ c κs. tt)
-    (λ c κs. tt)
-    (λ c κs. tt)
-    (λ c. reverse-from-checked _ _ _ _ (cc)))
+    (λ c. search reverse-laws))

@@ -1,4 +1,4 @@
-use Rattle.editing.proofs.Reversing.{reverse-checked}
+use Rattle.editing.proofs.Reversing.{reverse-laws}
 use Rattle.editing.proofs.reversal.reverse_refusal.Statement.{statement}
 use Rattle.editing.proofs.reversal.reverse_refusal.Tie as tie
 
@@ -9,4 +9,4 @@ reverse-refusal-spec =
     (λ c κs. tt)
     (λ c κs. tt)
     (λ c κs. tt)
-    (λ c. reverse-checked _ _ _ (cc)))
+    (λ c. search reverse-laws))

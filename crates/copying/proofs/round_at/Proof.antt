@@ -1,9 +1,0 @@
-use Rattle.copying.proofs.round_at.Statement.{statement}
-use Rattle.copying.proofs.round_at.Tie as tie
-
-pub round-at-spec : {M : Type 1} → statement M
-round-at-spec =
-    tie.close
-    (tie.spec
-    (λ c κs. tt)
-    (λ c. cc))

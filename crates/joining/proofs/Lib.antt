@@ -1,0 +1,9 @@
+pub mod Texts
+pub mod Placing
+pub mod Filling
+pub mod Joining
+pub mod Rounding
+pub mod Chaining
+pub mod Answered
+pub mod Running
+pub mod Goodness

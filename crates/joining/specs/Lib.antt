@@ -1,0 +1,5 @@
+pub mod Joining
+pub mod Resuming
+pub mod RoundRule
+pub mod Inner
+pub mod Examples

@@ -1,5 +1,5 @@
 -- Laws of bytes written into a store: each turn puts one byte more behind those written. Assumes nothing.
-use mathlib.Core.Path.{_≡_, refl, sym, _∙_}
+use mathlib.Core.Path.{_≡_, refl, sym}
 use mathlib.Core.Bool.{Bool, true, false, cond}
 use mathlib.Core.List.{List}
 use Prim.Native.Nat.{ℕ, _+_, _≤_, _<_}
@@ -8,11 +8,12 @@ use native.Mathlib.Omega.{arith}
 use lib.ListN.{length, getD, set}
 use lib.Seq.{paste, paste-zero, paste-suc, take-all}
 use borrow.Author.Needs.{needs}
-use Rattle.strlib.proofs.Pointing.{within-so, is-within}
+use Rattle.strlib.proofs.Pointing.{within-so}
 use Rattle.strlib.specs.Pointer.{within}
 use Rattle.strlib.specs.Store.{put}
 use Rattle.strlib.proofs.Storing.{put-length}
 use Rattle.moving.specs.Moving.{pasted}
+use Rattle.moving.proofs.Writing.{written-in}
 
 module _ (s xs : List ℕ) (at : ℕ) where
   pub paste-start : s ≡ paste s at xs 0
@@ -30,7 +31,7 @@ module _ (s : List ℕ) (at : ℕ) (xs : List ℕ) where
   -- within the store it is what `put` writes
   pub pasted-in : at + length xs ≤ length s → pasted s at xs ≡ put s at xs
   unfolding pasted
-  pasted-in h = rw (is-within (length s) at (length xs) h)
+  pasted-in = written-in s at (length xs) xs
 
   -- the store keeps its size
   pub pasted-length : length (pasted s at xs) ≡ length s
@@ -41,12 +42,4 @@ module _ (s : List ℕ) (at : ℕ) (xs : List ℕ) where
       go true e = put-length s at xs (within-so (length s) at (length xs) true (sym e) refl)
       go false e = refl
 
-  module _ (b : Bool) (e : b ≡ within (length s) at (length xs)) where
-    pub pasted-none : b ≡ false → s ≡ pasted s at xs
-    unfolding pasted
-    pasted-none f = rw (← e, f)
-
-    pub pasted-yes : (t : List ℕ) → t ≡ put s at xs → b ≡ true → t ≡ pasted s at xs
-    pasted-yes t p f = p ∙ sym (pasted-in (within-so (length s) at (length xs) b e f))
-
-pub ruleset paste-laws = (needs, within-so, paste-start, paste-step, paste-end, pasted-none, pasted-yes)
+pub ruleset paste-laws = (needs, paste-start, paste-step, paste-end)

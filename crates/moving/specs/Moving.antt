@@ -20,7 +20,7 @@ blanked s at n = written s at n (replicate n 32)
 
 -- s with bytes written from index at on
 unfoldable pub pasted : List ℕ → ℕ → List ℕ → List ℕ
-pasted s at xs = cond (within (length s) at (length xs)) (put s at xs) s
+pasted s at xs = written s at (length xs) xs
 
 -- characters from the last to the first
 unfoldable pub reversed : List ℕ → List ℕ

@@ -1,55 +1,51 @@
--- Laws of a text that grows in a buffer: byte by byte, and text behind text. Assumes nothing.
-use mathlib.Core.Path.{_≡_, refl, sym, ap, _∙_}
+-- Laws of a text that grows in a buffer, and of text behind text. Assumes nothing.
+use mathlib.Core.Path.{_≡_, refl, ap, _∙_}
 use mathlib.Core.List.{List, [], _∷_, _++_, append-nil}
 use Prim.Native.Nat.{ℕ, zero, suc, _+_, _-_, _≤_, _<_, min}
-use native.Mathlib.Numerals.{add-one}
 use native.Mathlib.Omega.{arith}
 use borrow.Author.Needs.{needs}
-use lib.ListN.{length, getD, set, take, drop, length-take, length-append}
-use lib.Seq.{take-all, take-suc, take-at, take-nil}
+use lib.ListN.{length, take, length-take, length-append}
+use lib.Seq.{take-all, take-nil}
 use Rattle.strlib.proofs.Pointing.{either}
-use Rattle.strlib.proofs.Storing.{put-none, put-length, put-put, put-more, take-append}
+use Rattle.strlib.proofs.Storing.{put-none, put-length, put-head, put-put, take-append}
+use Rattle.strlib.specs.Pointer.{pointer, textOf}
 use Rattle.strlib.specs.Store.{put}
+use Rattle.strlib.specs.declared.StrPtr.{StrPtr}
+use Rattle.moving.proofs.Pasting.{pasted-in, pasted-length}
+use Rattle.moving.specs.Moving.{pasted}
 use Rattle.buffer.specs.Buffer.{grown}
 
--- ---- byte by byte: i bytes of the text stand behind the first `from`
+-- ---- what has room of a text is written behind the first bytes
 
-module _ (b : List ℕ) (n from : ℕ) (t : List ℕ) (ea : from ≡ min n (length b)) where
-  pub grow-start : b ≡ put b from (take 0 t)
-  grow-start = sym (put-none b from)
+module _ (b : List ℕ) (n from : ℕ) (t : List ℕ) (ea : from ≡ min n (length b)) (p : StrPtr) (ep : p ≡ pointer 0 (length b - from) (length b - from))
+    (x : List ℕ) (ex : x ≡ textOf t p) where
+  fitting : x ≡ take (length b - from) t
+  unfolding textOf pointer
+  fitting = ex ∙ rw ep
 
-  module _ (b′ : List ℕ) (at i : ℕ) (e : b′ ≡ put b from (take i t)) (p : at ≡ from + i) where
-    pub grow-step : at < length b′ → length b′ ≡ length b → i < length t → set b′ at (getD t i 0) ≡ put b from (take (i + 1) t)
-    grow-step h l k =
-        let m : length (take i t) ≡ i = rw length-take (omega arith) in
-        let f : from + length (take i t) < length b = omega arith in
-        rw (e, add-one, take-suc t i 0 k, p) (rw m at (put-more b from (take i t) (getD t i 0) f))
+  fitting-length : length x ≡ min (length b - from) (length t)
+  fitting-length = ap length fitting ∙ length-take (length b - from) t
 
-    -- nothing is left of the text, or of the room
-    grow-stop : i ≡ min (length t) (length b - from) → (at, b′) ≡ grown b n t
-    unfolding grown
-    grow-stop j =
-        let c : at ≡ min (n + length t) (length b) = omega arith in
-        either n (length b)
-        (λ (g : n ≤ length b).
-        let a : from ≡ n = omega arith in
-        let f : take i t ≡ take (length b - n) t =
-        either (length t) (length b - n)
-        (λ (x : length t ≤ length b - n). take-all i t (omega arith) ∙ sym (take-all (length b - n) t x))
-        (λ (x : length b - n < length t). let y : i ≡ length b - n = omega arith in rw y) in
-        rw (e, f, c, a))
-        (λ (g : length b < n).
-        let z : length b - n ≡ 0 = omega arith in
-        let y : i ≡ 0 = omega arith in
-        rw (e, y, z, c, put-none b from, put-none b n))
+  pub grow-count : from + length x ≤ length b
+  grow-count = omega (arith, fitting-length)
 
-    pub grow-full : i < length t → length b′ ≡ length b → at ≤ length b → length b′ ≤ at → (at, b′) ≡ grown b n t
-    grow-full k l m h = grow-stop (omega arith)
+  pub grow-put : (b′ : List ℕ) → b′ ≡ pasted b from x → (from + length x, b′) ≡ grown b n t
+  unfolding grown
+  grow-put b′ e =
+      let c : from + length x ≡ min (n + length t) (length b) = omega (arith, fitting-length) in
+      let q : put b from x ≡ put b n (take (length b - n) t) =
+      either n (length b)
+      (λ (h : n ≤ length b). let a : from ≡ n = omega arith in rw (fitting, a))
+      (λ (h : length b < n).
+      let z : length b - n ≡ 0 = omega arith in
+      let y : length b - from ≡ 0 = omega arith in
+      rw (fitting, y, z, put-none b from, put-none b n)) in
+      rw (c, e, pasted-in b from x grow-count, q)
 
-    pub grow-end : i ≤ length t → at ≤ length b → length t ≤ i → (at, b′) ≡ grown b n t
-    grow-end k m h = grow-stop (omega arith)
+  pub grow-size : (b′ : List ℕ) → b′ ≡ pasted b from x → length b′ ≡ length b
+  grow-size b′ e = rw e (pasted-length b from x)
 
-pub ruleset grow-laws = (needs, grow-start, grow-step, grow-full, grow-end)
+pub ruleset grow-laws = (needs, grow-count, grow-put, grow-size)
 
 -- ---- what follows from the equation
 
@@ -58,10 +54,6 @@ pub take-twice : (l : ℕ) (x u : List ℕ) → take l (take l x ++ u) ≡ take 
 take-twice zero x u = refl
 take-twice (suc l) [] u = refl
 take-twice (suc l) (a ∷ x) u = ap (λ (r : List ℕ). a ∷ r) (take-twice l x u)
-
-put-head : (b : List ℕ) (k : ℕ) (y : List ℕ) (m : ℕ) → length (take k b ++ y) ≡ m → take m (put b k y) ≡ take k b ++ y
-unfolding put
-put-head b k y m e = take-at (take k b ++ y) (drop (k + length y) b) m e
 
 module _ (b : List ℕ) (n : ℕ) (b′ : List ℕ) (r : ℕ) (t : List ℕ) (g : (r, b′) ≡ grown b n t) where
   pub grown-count : r ≡ min (n + length t) (length b)

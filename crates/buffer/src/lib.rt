@@ -10,17 +10,10 @@ ghost use Rattle.buffer.specs.Buffer.{grown, valueText};
 pub fn append(buffer: &mut [u8], n: usize, text: &[u8]) -> usize
     ensures { λ r. ⌜ (r, now (buffer .exit)) ≡ grown (now (buffer .entry)) n (now (text .entry)) ⌝ }
 {
-    let mut at = moving::least(n, buffer.len());
-    let mut i = 0;
-    while i < text.len() {
-        if buffer.len() <= at {
-            return at;
-        }
-        buffer[at] = text[i];
-        at += 1;
-        i += 1;
-    }
-    at
+    let at = moving::least(n, buffer.len());
+    let part = strlib::text(text, StrPtr::full(0, buffer.len() - at));
+    moving::write_bytes(buffer, at, part);
+    at + part.len()
 }
 
 // Puts a count there, in decimal.

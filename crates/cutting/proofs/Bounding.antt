@@ -1,12 +1,12 @@
 -- Laws of what a cut looks at: the code's tests are the bounds of the definitions, and blanks are dropped from the end. Assumes nothing.
 use mathlib.Core.Path.{_≡_, refl, sym, ap, _∙_}
 use mathlib.Core.Bool.{Bool, true, false, cond, _&&_, and-true, and-false}
-use mathlib.Core.List.{List, [], _∷_, _++_}
-use Prim.Native.Nat.{ℕ, suc, _+_, _-_, _≤_, _<_}
+use mathlib.Core.List.{List, [], _∷_, _++_, append-nil}
+use Prim.Native.Nat.{ℕ, zero, suc, _+_, _-_, _≤_, _<_}
 use native.Mathlib.Omega.{arith}
 use lib.Dec.{leb, eqb}
-use lib.ListN.{length, take, getD, length-take}
-use lib.Seq.{take-suc, take-length}
+use lib.ListN.{length, take, getD, replicate, length-take}
+use lib.Seq.{append-snoc, take-suc, take-length}
 use borrow.Author.Needs.{needs}
 use borrow.Author.Tests.{leb-true, le-leb, lt-leb, eq-eqb, ne-eqb}
 use Rattle.strlib.proofs.Refusing.{and-both}
@@ -133,6 +133,10 @@ pub trimmed-blank : (s : List ℕ) → trimmed (s ++ (32 ∷ [])) ≡ trimmed s
 unfolding trimmed blanks all
 trimmed-blank [] = refl
 trimmed-blank (x ∷ s) = rw (blanks-more (x ∷ s), trimmed-blank s)
+
+pub trimmed-padded : (k : ℕ) (s : List ℕ) → trimmed (s ++ replicate k 32) ≡ trimmed s
+trimmed-padded zero s = ap trimmed (append-nil s)
+trimmed-padded (suc k) s = ap trimmed (sym (append-snoc s 32 (replicate k 32))) ∙ trimmed-padded k (s ++ (32 ∷ [])) ∙ trimmed-blank s
 
 trimmed-other : (s : List ℕ) (y : ℕ) → (y ≡ 32 → ⊥) → trimmed (s ++ (y ∷ [])) ≡ suc (length s)
 unfolding trimmed

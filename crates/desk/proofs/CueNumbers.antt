@@ -1,12 +1,11 @@
 -- Laws of the numbers of a cue: a signed number as an index, and the three against the matrix. Assumes nothing.
-use mathlib.Core.Path.{_≡_, refl, sym, ap, _∙_}
-use mathlib.Core.Bool.{Bool, true, false, cond, _&&_, true≢false, false≢true}
-use mathlib.Core.List.{List, [], _∷_}
+use mathlib.Core.Path.{_≡_, refl, sym, _∙_}
+use mathlib.Core.Bool.{Bool, true, false, cond, _&&_, and-true, and-false, true≢false, false≢true}
 use Prim.Native.Nat.{ℕ, zero, suc, _^_, _≤_, _<_}
 use native.Mathlib.Omega.{arith}
 use borrow.Author.Needs.{needs}
-use borrow.Author.Tests.{leb-true, leb-false, ltb-true, le-leb, lt-leb}
-use lib.Dec.{T, leb, ltb}
+use borrow.Author.Tests.{ltb-true, le-leb, lt-leb}
+use lib.Dec.{T, leb}
 use lib.IntN.{ℤ, pos, negsuc, natAbs}
 use lib.Signed.{mag, leZ, ltZ, nonNeg}
 use mir.Facts.{toZ-ofZ}
@@ -15,10 +14,10 @@ use mir.Val.{Fits, SFits, toZ, ofZ}
 use Rattle.number.specs.Number.{numberAnswered}
 use Rattle.number.specs.declared.NumberAnswer.{NumberAnswer}
 use Rattle.number.specs.declared.NumberAnswer.the-variants.{Given as Number, Refused as NoNumber}
-use Rattle.strlib.proofs.Refusing.{and-both}
-use Rattle.strlib.specs.Refusal.{Outcome, refused, gives, first, outcome}
+use Rattle.strlib.proofs.Refusing.{and-both, outcome-no, outcome-yes}
+use Rattle.strlib.specs.Refusal.{Outcome, refused, gives, first}
 use Rattle.desk.specs.declared.cue.Cue.{Cue}
-use Rattle.desk.specs.Cue.{isIndex, isGain, cueOf}
+use Rattle.desk.specs.Cue.{isIndex, isGain, matrixChecks, cueOf}
 use Rattle.desk.specs.CueInner.{indexOf, inMatrix, inOrder}
 
 -- ---- an index
@@ -63,22 +62,20 @@ unfolding indexOf isIndex
 index-is most (pos n) = go (leb n most) refl
   where
     go : (t : Bool) → leb n most ≡ t → leb 1 (cond t n 0) ≡ (leb 1 n && leb n most)
-    go true e = rw e (and-true (leb 1 n))
-      where
-        and-true : (b : Bool) → b ≡ (b && true)
-        and-true true = refl
-        and-true false = refl
-    go false e = rw e (and-false (leb 1 n))
-      where
-        and-false : (b : Bool) → false ≡ (b && false)
-        and-false true = refl
-        and-false false = refl
+    go true e = rw (e, and-true)
+    go false e = rw (e, and-false)
 index-is most (negsuc n) = refl
 
 index-value : (most : ℕ) (v : ℤ) → isIndex most v ≡ true → indexOf most v ≡ natAbs v
 unfolding indexOf isIndex
 index-value most (pos n) e = rw (and-both (leb 1 n) (leb n most) e .1)
 index-value most (negsuc n) e = absurd (false≢true e)
+
+pub gain-in : (v v′ : ℤ) (b : Bool) → v′ ≡ v → b ≡ (leZ (negsuc 959) v′ && leZ v′ (pos 120)) → b ≡ isGain v
+unfolding isGain
+gain-in v v′ b e f = rw (← e) f
+
+pub ruleset gain-laws = (needs, gain-in)
 
 -- ---- the matrix
 
@@ -88,19 +85,20 @@ module _ (mics lsps : ℕ) (n n′ m m′ g g′ : ℤ) (i j : ℕ) (a b c : Boo
   tests = ec ∙ rw (ea, eb, ei, ej, en, em, eg, index-is mics n, index-is lsps m)
 
   pub matrix-in : c ≡ true → gives (record { microphone = i; loudspeaker = j; gain = g′ }) ≡ inMatrix mics lsps n m g
-  unfolding inMatrix outcome cueOf
+  unfolding inMatrix cueOf
   matrix-in t =
       let p = and-both (isIndex mics n && isIndex lsps m) (isGain g) (sym tests ∙ t) in
       let q = and-both (isIndex mics n) (isIndex lsps m) (p .0) in
       let x : i ≡ natAbs n = ei ∙ rw en (index-value mics n (q .0)) in
       let y : j ≡ natAbs m = ej ∙ rw em (index-value lsps m (q .1)) in
-      rw (q .0, q .1, p .1, x, y, eg)
+      outcome-yes 0 (first (matrixChecks mics lsps n m g)) (rw (q .0, q .1, p .1)) _ (cueOf n m g) refl (rw (x, y, eg))
 
   pub matrix-out : c ≡ false → refused 12 ≡ inMatrix mics lsps n m g
-  unfolding inMatrix outcome
-  matrix-out t = go (isIndex mics n) (isIndex lsps m) (isGain g) (sym tests ∙ t)
+  unfolding inMatrix
+  matrix-out t =
+      outcome-no 12 (first (matrixChecks mics lsps n m g)) (go (isIndex mics n) (isIndex lsps m) (isGain g) (sym tests ∙ t)) (cueOf n m g) (λ (z : _≡_ {A = ℕ} 12 0). omega arith)
     where
-      go : (x y z : Bool) → ((x && y) && z) ≡ false → refused 12 ≡ outcome (first ((12, x) ∷ (12, y) ∷ (12, z) ∷ [])) (cueOf n m g)
+      go : (x y z : Bool) → ((x && y) && z) ≡ false → _≡_ {A = ℕ} 12 (cond x (cond y (cond z 0 12) 12) 12)
       go true true true e = absurd (true≢false e)
       go true true false e = refl
       go true false z e = refl

@@ -1,15 +1,15 @@
--- Laws of the words of a cue line: the loop puts them into a list one by one, and by their places they have the form that the line has.
--- Assumes nothing.
-use mathlib.Core.Path.{_≡_, refl, sym, ap, _∙_}
+-- Laws of the words of a cue line: the loop puts them into a list one by one, and by their places they have the form
+-- that the line has. Assumes nothing.
+use mathlib.Core.Path.{_≡_, refl, sym, _∙_}
 use mathlib.Core.Bool.{Bool, true, false, _&&_}
-use mathlib.Core.List.{List, [], _∷_, _++_, append-assoc, append-nil}
+use mathlib.Core.List.{List, [], _++_, append-assoc, append-nil}
 use Prim.Native.Nat.{ℕ, suc, _+_, _-_, _≤_, _<_}
 use native.Mathlib.Numerals.{add-one}
 use native.Mathlib.Omega.{arith}
 use borrow.Author.Needs.{needs}
-use borrow.Author.Tests.{ltb-true, ltb-false, lt-ltb, le-ltb, eq-eqb, ne-eqb}
+use borrow.Author.Tests.{ltb-true, ltb-false, eq-eqb, ne-eqb}
 use lib.Dec.{eqb, ltb}
-use lib.ListN.{length, getD, set, take, drop, length-set}
+use lib.ListN.{length, getD, set, take, length-set}
 use lib.Seq.{take-all, take-suc-set}
 use Rattle.strlib.specs.Pointer.{textOf}
 use Rattle.strlib.specs.Quoted.{bytes}
@@ -85,3 +85,8 @@ module _ (s : List ℕ) (l : List StrPtr) (e : l ≡ firstWords 8 s 0) where
       en ∙ seven (length (words s)) (getD l 6 o .length) (getD l 7 p .length) (some-is 6 (omega arith) o) (some-is 7 (omega arith) p)
       in
       er ∙ rw (n, eh, ef, eg, ea, eb, ec, ed, text-is 0 (omega arith) q, text-is 2 (omega arith) u, text-is 3 (omega arith) v, text-is 5 (omega arith) w)
+
+pub word-same : (s : List ℕ) (p : StrPtr) (t y : List ℕ) (b : Bool) → t ≡ textOf s p → b ≡ same t y → b ≡ same (textOf s p) y
+word-same s p t y b e f = rw (← e) f
+
+pub ruleset word-laws = (needs, word-same)

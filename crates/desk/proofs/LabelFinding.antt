@@ -1,73 +1,34 @@
--- Laws of the lookup: what the reader answered decides first, and a record that is found lies in the list whole. Assumes nothing.
+-- Laws of the lookup: what the reader answered decides first, and a name that is found lies in the list. Assumes
+-- nothing.
 use mathlib.Core.Path.{_≡_, refl, sym, ap, _∙_}
-use mathlib.Core.Bool.{Bool, true, false, cond}
-use mathlib.Core.List.{List}
-use Prim.Native.Nat.{ℕ, zero, suc, _+_, _-_, _*_, _≤_}
-use native.Mathlib.Nat.{zero-add}
+use mathlib.Core.List.{List, [], _++_}
+use Prim.Native.Nat.{ℕ, zero, suc, _+_, _-_, _*_, _≤_, _<_, _^_}
 use native.Mathlib.Omega.{arith}
-use lib.ListN.{length, drop, length-take}
+use lib.ListN.{length}
 use denote.Ref.{RefT, now}
+use mir.Syntax.{w64}
+use mir.Val.{Fits}
 use borrow.Author.Needs.{needs}
-use borrow.Author.Tests.{le-leb}
 use Rattle.strlib.proofs.Refusing.{outcome-no, outcome-yes, outcome-gave}
-use Rattle.strlib.specs.Pointer.{pointer, partOf, textOf}
 use Rattle.strlib.specs.Refusal.{Outcome, refused, gives, Sought, nowhere, at, outcome}
-use Rattle.strlib.specs.declared.StrPtr.{StrPtr}
 use Rattle.cutting.proofs.Bounding.{trimmed-le}
-use Rattle.cutting.proofs.Slicing.{trim-length}
-use Rattle.cutting.specs.Cutting.{trimmed, countedIn, inBounds, cutOf}
-use Rattle.cutting.specs.Part.{IsPart, whole, sliceCut}
-use Rattle.cutting.specs.declared.Cut.the-variants.{Counted, Trimmed}
-use Rattle.desk.proofs.LabelRecord.{good-whole}
-use Rattle.desk.proofs.LabelReading.{earlier-none, earlier-found, earlier-zero}
-use Rattle.desk.specs.Label.{headSize, recordSize, nameWidth, nameAt, isRecord, recordOf, recordRefusal, earlier, faultIn, records, listRefusal}
-use Rattle.desk.specs.Label.{readRule, labelCounted, keyRefusal, nameOf, findRule, labelPlaced, namePart}
-use Rattle.desk.specs.LabelInner.{Begins, Good}
+use Rattle.cutting.proofs.Slicing.{part-trimmed, part-counted}
+use Rattle.cutting.specs.Cutting.{trimmed}
+use Rattle.cutting.specs.Part.{IsPart, sliceCut}
+use Rattle.cutting.specs.declared.Cut.the-variants.{Counted as CountedCut, Trimmed}
+use Rattle.records.proofs.Fronts.{name-front, name-length}
+use Rattle.records.proofs.Goodness.{good-passes, record-length, record-place, place-front, record-front}
+use Rattle.records.proofs.Likeness.{record-of-le}
+use Rattle.records.proofs.Limits.{earlier-none, earlier-found, earlier-zero}
+use Rattle.records.proofs.Sizes.{size-width, place-begins}
+use Rattle.records.specs.Record.{headSize, sizeOf, kindOf, nameIn, placeOf, recordAt, records, recordOf, earlier, listRefusal, keyRefusal}
+use Rattle.desk.proofs.LabelReading.{answered-good, answered-refused}
+use Rattle.desk.specs.Label.{readRule, labelCounted, nameOf, findRule, labelPlaced, namePart}
+use Rattle.desk.specs.LabelInner.{Counted}
 use Rattle.desk.specs.declared.label.read.LabelCount.{LabelCount}
 use Rattle.desk.specs.declared.label.read.LabelCount.the-variants.{Records, Refused as Uncounted}
 use Rattle.desk.specs.declared.label.find.LabelPlace.{LabelPlace}
 use Rattle.desk.specs.declared.label.find.LabelPlace.the-variants.{Found, Missing, Refused as Unplaced}
-
--- ---- a good list
-
--- its records lie in it whole
-pub good-room : (l : List ℕ) → listRefusal l ≡ 0 → recordSize * records l ≤ length l
-unfolding listRefusal faultIn
-good-room l e = go (records l) e
-  where
-    go : (n : ℕ) → faultIn l n ≡ 0 → recordSize * n ≤ length l
-    go zero f = omega arith
-    go (suc n) f = omega (arith, good-whole l n (earlier-none (faultIn l n) (recordRefusal l n) f .1))
-
-pub record-le : (l : List ℕ) (kind number n : ℕ) → recordOf l kind number n ≤ n
-unfolding recordOf
-record-le l kind number zero = omega arith
-record-le l kind number (suc n) = go (isRecord l n kind number) (record-le l kind number n)
-  where
-    go : (b : Bool) → recordOf l kind number n ≤ n → cond b (suc n) (recordOf l kind number n) ≤ suc n
-    go true h = omega arith
-    go false h = omega arith
-
-module _ (l : List ℕ) (n : ℕ) (g : Good l n) where
-  pub good-begins : Begins l n
-  good-begins = record { to = omega (arith, good-room l (g .good), g .count) }
-
-  pub found-begins : (kind number k : ℕ) → k ≡ recordOf l kind number n → Begins l k
-  found-begins kind number k e = record { to = omega (arith, record-le l kind number n, good-begins .to) }
-
--- what the reader answered
-module _ (l : List ℕ) (r : LabelCount) (e : labelCounted r ≡ readRule l) where
-  pub read-records : (n : ℕ) → r ≡ Records n → Good l n
-  unfolding readRule
-  read-records n q = let g = outcome-gave (listRefusal l) (records l) n (sym e ∙ ap labelCounted q) in record { good = g .0; count = sym (g .1) }
-
-  pub read-number : (k : ℕ) → r ≡ Uncounted k → (k ≡ listRefusal l) × (k ≡ 0 → ⊥)
-  unfolding readRule outcome
-  read-number k q = go (listRefusal l) (sym e ∙ ap labelCounted q)
-    where
-      go : (m : ℕ) → outcome m (records l) ≡ refused k → (k ≡ m) × (k ≡ 0 → ⊥)
-      go zero f = let z : _≡_ {A = ℕ} 0 1 = cc in absurd (omega arith)
-      go (suc m) f = let z : k ≡ suc m = cc in (z, λ (y : k ≡ 0). omega arith)
 
 -- ---- the name of a record
 
@@ -76,98 +37,108 @@ module _ (l : List ℕ) (k : ℕ) where
   unfolding nameOf
   name-missing z = rw z
 
-  pub name-placed : (p : StrPtr) (t q : RefT (List ℕ)) → (k ≡ 0 → ⊥) → p ≡ pointer (recordSize * (k - 1) + headSize) nameWidth nameWidth → now t ≡ textOf l p
-      → IsPart q t (sliceCut (now t) Trimmed)
-      → gives (at (pointer (recordSize * (k - 1) + headSize) (length (now q)) (length (now q)))) ≡ gives (nameOf l k)
-  unfolding nameOf nameAt
-  name-placed p t q h e f i = go k h e
-    where
-      left : length (now q) ≡ trimmed (now t)
-      left = ap length (i .bytes) ∙ trim-length (now t)
+  module _ (x : List ℕ) (ex : x ≡ recordAt l (k - 1)) where
+    pub rest-within : length x ≤ length l
+    rest-within = omega (arith, ap length ex, record-length l (k - 1))
 
-      go : (k : ℕ) → (k ≡ 0 → ⊥) → p ≡ pointer (recordSize * (k - 1) + headSize) nameWidth nameWidth
-          → gives (at (pointer (recordSize * (k - 1) + headSize) (length (now q)) (length (now q)))) ≡ gives (nameOf l k)
-      go zero h e = absurd (h refl)
-      go (suc k) h e =
-          let z : suc k - 1 ≡ k = omega arith in
-          let y : length (now q) ≡ trimmed (textOf l (pointer (recordSize * k + headSize) nameWidth nameWidth)) = left ∙ ap trimmed (f ∙ ap (textOf l) (rw z at e)) in
-          rw (z, y)
+    pub place-fits : length l * 1 < 2 ^ 63 → Fits w64 (length l - length x + headSize)
+    place-fits h = record { fits = omega arith }
 
-pub ruleset place-laws = (needs, name-missing, name-placed)
+    pub name-placed : (t q : RefT (List ℕ)) → Counted l k → (k ≡ 0 → ⊥) → now t ≡ nameIn x → IsPart q t (sliceCut (now t) Trimmed)
+        → gives (at (length l - length x + headSize, length (now q))) ≡ gives (nameOf l k)
+    unfolding nameOf
+    name-placed t q c h e i =
+        let p : length l - length x ≡ placeOf l (k - 1) = rw ex (record-place l (k - 1) (omega (arith, c .most, h))) in
+        let n : length (now q) ≡ trimmed (nameIn (recordAt l (k - 1))) = part-trimmed q t i ∙ ap trimmed (e ∙ ap nameIn ex) in
+        rw (p, n) (go k h)
+      where
+        go : (k : ℕ) → (k ≡ 0 → ⊥) → gives (at (placeOf l (k - 1) + headSize, trimmed (nameIn (recordAt l (k - 1))))) ≡ gives (nameOf l k)
+        go zero h = absurd (h refl)
+        go (suc k) h = let z : suc k - 1 ≡ k = omega arith in rw z
+
+pub ruleset place-laws = (needs, name-missing, rest-within, place-fits, name-placed)
 
 -- ---- the lookup
 
-module _ (l : List ℕ) (kind number : ℕ) where
-  pub find-list : (r : LabelCount) (k : ℕ) → labelCounted r ≡ readRule l → r ≡ Uncounted k → refused k ≡ findRule l kind number
+pub found-counted : (l : List ℕ) (kind number k : ℕ) → k ≡ recordOf l kind number (records l) → Counted l k
+found-counted l kind number k e = record { most = rw e (record-of-le l kind number (records l)) }
+
+module _ (l : List ℕ) (kind number : ℕ) (a : LabelCount) (c : labelCounted a ≡ readRule l) where
+  pub find-list : (k : ℕ) → a ≡ Uncounted k → refused k ≡ findRule l kind number
   unfolding findRule
-  find-list r k e q =
-      let n = read-number l r e k q in
+  find-list k q =
+      let n = answered-refused l a c k q in
       let f : k ≡ earlier (listRefusal l) (keyRefusal kind number) = n .0 ∙ sym (earlier-found (listRefusal l) (keyRefusal kind number) (rw (n .0) at (n .1))) in
       outcome-no k _ f (nameOf l (recordOf l kind number (records l))) (n .1)
 
-  module _ (r : LabelCount) (n j : ℕ) (c : labelCounted r ≡ readRule l) (q : r ≡ Records n) (e : j ≡ keyRefusal kind number) where
-    g : Good l n
-    g = read-records l r c n q
-
+  module _ (n j : ℕ) (q : a ≡ Records n) (e : j ≡ keyRefusal kind number) where
     later : j ≡ earlier (listRefusal l) (keyRefusal kind number)
-    later = e ∙ sym (earlier-zero (listRefusal l) (keyRefusal kind number) (g .good))
+    later = e ∙ sym (earlier-zero (listRefusal l) (keyRefusal kind number) (answered-good l a c n q))
 
     pub find-key : (j ≡ 0 → ⊥) → refused j ≡ findRule l kind number
     unfolding findRule
     find-key h = outcome-no j _ later (nameOf l (recordOf l kind number (records l))) h
 
-    pub find-name : (k : ℕ) (a : Outcome (Sought StrPtr)) → j ≡ 0 → k ≡ recordOf l kind number n → a ≡ gives (nameOf l k) → a ≡ findRule l kind number
+    pub find-name : (k : ℕ) (r : Outcome (Sought (ℕ × ℕ))) → j ≡ 0 → k ≡ recordOf l kind number (records l) → r ≡ gives (nameOf l k) → r ≡ findRule l kind number
     unfolding findRule
-    find-name k a z f x =
-        let m : nameOf l k ≡ nameOf l (recordOf l kind number (records l)) = ap (nameOf l) (f ∙ ap (recordOf l kind number) (g .count)) in
-        x ∙ outcome-yes j _ later (nameOf l k) _ z m
+    find-name k r z f x = x ∙ outcome-yes j _ later (nameOf l k) _ z (ap (nameOf l) f)
 
-pub ruleset find-laws = (needs, good-begins, found-begins, read-records, find-list, find-key, find-name)
+pub ruleset find-laws = (needs, found-counted, find-list, find-key, find-name)
+
+-- ---- in a good list
+
+pub find-good : (l : List ℕ) (kind number : ℕ) → listRefusal l ≡ 0
+    → findRule l kind number ≡ outcome (keyRefusal kind number) (nameOf l (recordOf l kind number (records l)))
+unfolding findRule
+find-good l kind number g = rw (earlier-zero (listRefusal l) (keyRefusal kind number) g)
+
+module _ (l : List ℕ) (g : listRefusal l ≡ 0) where
+  -- a name lies in its record, and so in the list
+  pub name-within : (k : ℕ) → k < records l → placeOf l k + headSize + trimmed (nameIn (recordAt l k)) ≤ length l
+  name-within k h =
+      let x : List ℕ = recordAt l k in
+      let w : sizeOf (kindOf x) ≤ length x = good-passes l g k h .body .whole in
+      omega (arith, w, record-length l k, place-begins l k h, trimmed-le (nameIn x), name-length x [] w, size-width (kindOf x))
+
+  found-within : (k place n : ℕ) → k ≤ records l → nameOf l k ≡ at (place, n) → place + n ≤ length l
+  unfolding nameOf
+  found-within zero place n h e = let z : _≡_ {A = ℕ} 0 1 = cc in absurd (omega arith)
+  found-within (suc k) place n h e =
+      let q : _≡_ {A = ℕ × ℕ} (placeOf l k + headSize, trimmed (nameIn (recordAt l k))) (place, n) = cc in
+      omega (arith, ap (λ (z : ℕ × ℕ). z .0) q, ap (λ (z : ℕ × ℕ). z .1) q, name-within k (omega arith))
+
+  -- what stands behind the list does not move a found name
+  pub name-stays : (r : List ℕ) (k : ℕ) → k ≤ records l → nameOf (l ++ r) k ≡ nameOf l k
+  unfolding nameOf
+  name-stays r zero h = refl
+  name-stays r (suc k) h =
+      rw (place-front l r k (omega arith), record-front l r k (omega arith), name-front (recordAt l k) r (good-passes l g k (omega arith) .body .whole))
 
 -- ---- the read-only form
 
--- what is found lies in the list
-within : (l : List ℕ) (k : ℕ) (p : StrPtr) → recordSize * k ≤ length l → nameOf l k ≡ at p → p .start + p .length ≤ length l
-unfolding nameOf nameAt pointer textOf
-within l zero p h e = let z : _≡_ {A = ℕ} 0 1 = cc in absurd (omega arith)
-within l (suc k) p h e =
-    let q : pointer (recordSize * k + headSize) (trimmed (nameAt l k)) (trimmed (nameAt l k)) ≡ p = cc in
-    rw (← q) (omega (arith, trimmed-le (nameAt l k), length-take nameWidth (drop (recordSize * k + headSize) l)))
-
-pub found-within : (l : List ℕ) (kind number : ℕ) (p : StrPtr) → findRule l kind number ≡ gives (at p) → p .start + p .length ≤ length l
-unfolding findRule
-found-within l kind number p e =
-    let g = outcome-gave (earlier (listRefusal l) (keyRefusal kind number)) _ (at p) e in
-    let z = earlier-none (listRefusal l) (keyRefusal kind number) (g .0) in
-    within l (recordOf l kind number (records l)) p (omega (arith, good-room l (z .0), record-le l kind number (records l))) (g .1)
-
--- a counted cut from position place + 1 on, as a part from index place on
-part-at : (r s : RefT (List ℕ)) (place n : ℕ) → place + n ≤ length (now s) → IsPart r s (sliceCut (now s) (Counted (place + 1) n)) → IsPart r s (pointer place n n)
-unfolding sliceCut inBounds countedIn cutOf partOf whole pointer textOf
-part-at r s place n h i =
-    let a : place + 1 ≤ length (now s) + 1 = omega arith in
-    let b : n ≤ length (now s) + 1 - (place + 1) = omega arith in
-    let o : 1 ≤ place + 1 = omega arith in
-    let z : place + 1 - 1 ≡ place = omega arith in
-    let j = rw (le-leb 1 (place + 1) o, le-leb (place + 1) (length (now s) + 1) a, le-leb n (length (now s) + 1 - (place + 1)) b, z) at i in
-    record { block = j .block; place = j .place ∙ rw zero-add; bytes = j .bytes ∙ rw zero-add }
-
 pub place-within : (l : List ℕ) (kind number : ℕ) (q : LabelPlace) → labelPlaced q ≡ findRule l kind number → (place n : ℕ) → q ≡ Found place n
     → place + n ≤ length l
-unfolding pointer
-place-within l kind number q e place n f = found-within l kind number (pointer place n n) (sym e ∙ ap labelPlaced f)
+unfolding findRule
+place-within l kind number q e place n f =
+    let g = outcome-gave (earlier (listRefusal l) (keyRefusal kind number)) _ (at (place, n)) (sym e ∙ ap labelPlaced f) in
+    let z = earlier-none (listRefusal l) (keyRefusal kind number) (g .0) in
+    found-within l (z .0) (recordOf l kind number (records l)) place n (record-of-le l kind number (records l)) (g .1)
 
 module _ (r s : RefT (List ℕ)) (kind number : ℕ) (q : LabelPlace) (e : labelPlaced q ≡ findRule (now s) kind number) where
-  pub part-found : (place n : ℕ) → q ≡ Found place n → IsPart r s (sliceCut (now s) (Counted (place + 1) n)) → IsPart r s (namePart (findRule (now s) kind number))
+  pub part-found : (place n : ℕ) → q ≡ Found place n → IsPart r s (sliceCut (now s) (CountedCut (place + 1) n)) → IsPart r s (namePart (findRule (now s) kind number))
   unfolding namePart
-  part-found place n f i = rw (← e, f) (part-at r s place n (place-within (now s) kind number q e place n f) i)
+  part-found place n f i = rw (← e, f) (part-counted r s place n (place-within (now s) kind number q e place n f) i)
 
-  pub part-missing : q ≡ Missing → IsPart r s (sliceCut (now s) (Counted 1 0)) → IsPart r s (namePart (findRule (now s) kind number))
+  pub part-missing : q ≡ Missing → IsPart r s (sliceCut (now s) (CountedCut 1 0)) → IsPart r s (namePart (findRule (now s) kind number))
   unfolding namePart
-  part-missing f i = rw (← e, f) (part-at r s 0 0 (omega arith) i)
+  part-missing f i = rw (← e, f) (part-counted r s 0 0 (omega arith) i)
 
-  pub part-refused : (k : ℕ) → q ≡ Unplaced k → IsPart r s (sliceCut (now s) (Counted 1 0)) → IsPart r s (namePart (findRule (now s) kind number))
+  pub part-refused : (k : ℕ) → q ≡ Unplaced k → IsPart r s (sliceCut (now s) (CountedCut 1 0)) → IsPart r s (namePart (findRule (now s) kind number))
   unfolding namePart
-  part-refused k f i = rw (← e, f) (part-at r s 0 0 (omega arith) i)
+  part-refused k f i = rw (← e, f) (part-counted r s 0 0 (omega arith) i)
 
-pub ruleset part-laws = (needs, part-found, part-missing, part-refused)
+pub part-fits : (l : List ℕ) (kind number : ℕ) (q : LabelPlace) → labelPlaced q ≡ findRule l kind number → (place n : ℕ) → q ≡ Found place n
+    → length l * 1 < 2 ^ 63 → Fits w64 (place + 1)
+part-fits l kind number q e place n f h = record { fits = omega (arith, place-within l kind number q e place n f) }
+
+pub ruleset part-laws = (needs, part-found, part-missing, part-refused, part-fits)

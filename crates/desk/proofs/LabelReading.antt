@@ -1,177 +1,180 @@
--- Laws of the reader: the first faulty record decides, and what the marks say of a record is whether its kind and number stood before it.
--- Assumes nothing.
+-- Laws of the reader: the first faulty record decides, and what the marks say of a record is whether its kind and
+-- number stood before it. Assumes nothing.
 use mathlib.Core.Path.{_≡_, refl, sym, ap, _∙_}
-use mathlib.Core.Bool.{Bool, true, false, cond, not, _&&_, false≢true}
-use mathlib.Core.List.{List, [], _∷_}
-use Prim.Native.Nat.{ℕ, zero, suc, _+_, _-_, _*_, _≤_, _<_}
-use native.Mathlib.Nat.{le-dest, add-zero, add-suc}
-use native.Mathlib.Numerals.{add-one}
+use mathlib.Core.Bool.{Bool, true, false, cond, not, _&&_}
+use mathlib.Core.List.{List}
+use Prim.Native.Nat.{ℕ, _+_, _-_, _*_, _≤_, _<_, _^_}
 use native.Mathlib.Omega.{arith}
-use lib.Dec.{eqb}
-use lib.ListN.{length, getD, set, replicate, getD-replicate, length-set}
+use lib.ListN.{length, getD, set, take, drop, replicate, getD-replicate, length-set}
 use lib.Seq.{getD-set-same, getD-set-other}
+use mir.Syntax.{w64}
+use mir.Val.{Fits}
 use borrow.Author.Needs.{needs}
-use borrow.Author.Tests.{leb-true, ne-eqb, eqb-true, eqb-false}
-use Rattle.strlib.proofs.Refusing.{Passed, passed, first-before, first-behind, outcome-no, outcome-yes}
-use Rattle.strlib.specs.Refusal.{refused, gives}
-use Rattle.desk.proofs.LabelRecord.{in-range}
-use Rattle.desk.specs.Label.{recordSize, isNumber, kindAt, numberAt, isRecord, recordOf, recordRefusal, earlier, faultIn, records, listRefusal, readRule}
-use Rattle.desk.specs.LabelInner.{Starts, Whole, Ranged, bodyChecks, bodyRefusal, markOf}
-
--- ---- the list
-
-pub earlier-none : (k m : ℕ) → earlier k m ≡ 0 → (k ≡ 0) × (m ≡ 0)
-unfolding earlier
-earlier-none zero m e = (refl, e)
-earlier-none (suc k) m e = absurd (omega arith)
-
-pub earlier-found : (k m : ℕ) → (k ≡ 0 → ⊥) → earlier k m ≡ k
-unfolding earlier
-earlier-found zero m h = absurd (h refl)
-earlier-found (suc k) m h = refl
-
-pub earlier-zero : (k m : ℕ) → k ≡ 0 → earlier k m ≡ m
-unfolding earlier
-earlier-zero k m h = rw h
-
-module _ (l : List ℕ) (n r : ℕ) (i : recordSize * n < length l) (e : faultIn l n ≡ 0) (q : r ≡ recordRefusal l n) where
-  -- a faulty record decides, whatever stands behind it
-  stays : (r ≡ 0 → ⊥) → (j : ℕ) → faultIn l (suc n + j) ≡ r
-  unfolding faultIn
-  stays h zero = rw (add-zero, earlier-zero (faultIn l n) (recordRefusal l n) e, ← q)
-  stays h (suc j) = rw (add-suc, stays h j) (earlier-found r (recordRefusal l (suc n + j)) h)
-
-  pub faulty : (r ≡ 0 → ⊥) → refused r ≡ readRule l
-  unfolding readRule listRefusal records
-  faulty h =
-      let d = le-dest {n = suc n} {m = records l} (omega arith) in
-      let f : r ≡ listRefusal l = sym (ap (faultIn l) (sym (d .1)) ∙ stays h (d .0)) in
-      outcome-no r (listRefusal l) f (records l) h
-
-pub read-good : (l : List ℕ) (n : ℕ) → recordSize * n ≤ length l → length l ≤ recordSize * n → faultIn l n ≡ 0 → gives n ≡ readRule l
-unfolding readRule listRefusal records
-read-good l n i j e = let q : n ≡ records l = omega arith in outcome-yes 0 (listRefusal l) (sym (rw (← q) e)) n (records l) refl q
+use Rattle.strlib.proofs.Refusing.{bool-case, outcome-no, outcome-yes, outcome-gave, outcome-is}
+use Rattle.strlib.specs.Refusal.{refused, gives, outcome}
+use Rattle.records.proofs.Fronts.{body-passes, behind-body, behind-fresh}
+use Rattle.records.proofs.Limits.{in-range}
+use Rattle.records.proofs.Reading.{Reached, reached-start, reached-next, reached-refusal, reached-count, reached-good, record-yes, record-no, fresh-next, fresh-none}
+use Rattle.records.proofs.Sizes.{size-least}
+use Rattle.records.specs.Record.{sizeOf, isNumber, kindOf, numberOf, records, isRecord, isFresh, bodyRefusal, behindRefusal, listRefusal}
+use Rattle.desk.specs.Label.{labelCounted, readRule}
+use Rattle.desk.specs.LabelInner.{Markable, markOf}
+use Rattle.desk.specs.declared.label.read.LabelCount.{LabelCount}
+use Rattle.desk.specs.declared.label.read.LabelCount.the-variants.{Records, Refused as Uncounted}
 
 -- ---- the marks
 
-pub ranged-whole : (l : List ℕ) (k : ℕ) → Ranged l k → Whole l k
-ranged-whole l k r = record { to = r .to }
-
-pub mark-is : (l : List ℕ) (k number : ℕ) → number ≡ numberAt l k → 129 * kindAt l k + number ≡ markOf (kindAt l k) (numberAt l k)
+pub mark-is : (kind number : ℕ) → 129 * kind + number ≡ markOf kind number
 unfolding markOf
-mark-is l k number e = rw e
+mark-is kind number = refl
 
-pub ruleset mark-laws = (needs, ranged-whole, mark-is)
+pub mark-fits : (kind number : ℕ) → Markable kind number → Fits w64 (129 * kind + number)
+mark-fits kind number m = record { fits = omega (arith, m .kinds, m .numbers) }
 
--- ---- the loop of the reader
+pub ruleset mark-laws = (needs, mark-is, mark-fits)
 
--- of the kinds and numbers, those of the first k records are marked
-pub record Marked (met : List Bool) (l : List ℕ) (k : ℕ) : Type 0 where
+mark-in : (kind number : ℕ) → Markable kind number → markOf kind number < 387
+unfolding markOf
+mark-in kind number m = omega (arith, m .kinds, m .numbers)
+
+-- each kind and number has its own
+mark-own : (kind number k m : ℕ) → Markable kind number → Markable k m → markOf kind number ≡ markOf k m → (k ≡ kind) × (m ≡ number)
+unfolding markOf
+mark-own kind number k m a b e = (omega (arith, a .numbers, b .numbers), omega (arith, a .numbers, b .numbers))
+
+markable : (kind number : ℕ) → isNumber kind number ≡ true → Markable kind number
+markable kind number e = let g = in-range kind number e in record { kinds = g .0; numbers = g .1 }
+
+-- of the kinds and numbers, those of the records in `front` are marked
+pub record Marked (met : List Bool) (front : List ℕ) : Type 0 where
   pub size : length met ≡ 387
-  pub marks : (kind number : ℕ) → isNumber kind number ≡ true → getD met (markOf kind number) false ≡ not (eqb (recordOf l kind number k) 0)
+  pub marks : (kind number : ℕ) → isNumber kind number ≡ true → getD met (markOf kind number) false ≡ not (isFresh front kind number)
 
-pub starts : (l : List ℕ) (n : ℕ) → recordSize * n < length l → Starts l n
-starts l n h = record { from = h }
-
-pub none-faulty : (l : List ℕ) → faultIn l 0 ≡ 0
-unfolding faultIn
-none-faulty l = refl
-
-pub none-marked : (l : List ℕ) → Marked (replicate 387 false) l 0
-unfolding recordOf markOf
+pub none-marked : (l : List ℕ) → Marked (replicate 387 false) (take 0 l)
 none-marked l =
     record {
       size = refl;
-      marks = λ kind number e. getD-replicate 387 (markOf kind number) false false (omega (arith, in-range kind number e));
+      marks = λ kind number e. getD-replicate 387 (markOf kind number) false false (mark-in kind number (markable kind number e)) ∙ rw (fresh-none l kind number);
     }
 
-module _ (l : List ℕ) (n r : ℕ) (i : recordSize * n < length l) (e : faultIn l n ≡ 0) (q : r ≡ bodyRefusal l n) where
-  pub body-faulty : (r ≡ 0 → ⊥) → refused r ≡ readRule l
-  unfolding bodyRefusal recordRefusal
-  body-faulty h = faulty l n r i e (first-before (bodyChecks l n) ((11, eqb (recordOf l (kindAt l n) (numberAt l n) n) 0) ∷ []) r q h) h
+-- ---- the loop
 
-  module _ (z : r ≡ 0) where
-    checked : Passed (bodyChecks l n)
-    unfolding bodyRefusal
-    checked = passed (bodyChecks l n) refl (sym q ∙ z)
+module _ (l : List ℕ) (n place : ℕ) (r : Reached l n place) (x : List ℕ) (ex : x ≡ drop place l) (k : ℕ) (ek : k ≡ bodyRefusal x) where
+  stop : place < length l → (m : ℕ) → m ≡ behindRefusal (take place l) x → (m ≡ 0 → ⊥) → refused m ≡ readRule l
+  unfolding readRule
+  stop h m e f = outcome-no m (listRefusal l) (reached-refusal l n place r h m (rw (← ex) e) f) (records l) f
 
-    pub body-ranged : Ranged l n
-    body-ranged =
-        let g = in-range (kindAt l n) (numberAt l n) (checked .1 .1 .0) in
-        record { to = leb-true (recordSize * n + recordSize) (length l) (checked .1 .0); kind = g .0; number = g .1 }
+  pub body-faulty : place < length l → (k ≡ 0 → ⊥) → refused k ≡ readRule l
+  body-faulty h f = stop h k (behind-body (take place l) x k ek f) f
 
-    pub body-on : recordSize * (n + 1) ≤ length l
-    body-on = omega (arith, body-ranged .to)
+  module _ (z : k ≡ 0) (kind number : ℕ) (ea : kind ≡ kindOf x) (eb : number ≡ numberOf x) where
+    numbered : isNumber kind number ≡ true
+    numbered = rw (ea, eb) (body-passes x (sym ek ∙ z) .number)
 
-    pub mark-in : (m : ℕ) → m ≡ markOf (kindAt l n) (numberAt l n) → m < 387
-    unfolding markOf
-    mark-in m f = omega (arith, body-ranged .kind, body-ranged .number)
+    pub body-markable : Markable kind number
+    body-markable = markable kind number numbered
 
     -- only the repetition is left to decide
-    left : recordRefusal l n ≡ cond (eqb (recordOf l (kindAt l n) (numberAt l n) n) 0) 0 11
-    unfolding bodyRefusal recordRefusal
-    left = first-behind (bodyChecks l n) ((11, eqb (recordOf l (kindAt l n) (numberAt l n) n) 0) ∷ []) refl (sym q ∙ z)
+    left : behindRefusal (take place l) x ≡ cond (isFresh (take place l) kind number) 0 11
+    left = behind-fresh (take place l) x (sym ek ∙ z) ∙ rw (ea, eb)
 
-    module _ (met : List Bool) (g : Marked met l n) (m : ℕ) (f : m ≡ markOf (kindAt l n) (numberAt l n)) where
-      is : not (eqb (recordOf l (kindAt l n) (numberAt l n) n) 0) ≡ getD met m false
-      is = rw f (sym (g .marks (kindAt l n) (numberAt l n) (checked .1 .1 .0)))
+    module _ (m : ℕ) (em : m ≡ markOf kind number) where
+      pub mark-below : m < 387
+      mark-below = rw em (mark-in kind number body-markable)
 
-      pub mark-faulty : getD met m false ≡ true → refused 11 ≡ readRule l
-      mark-faulty t = faulty l n 11 i e (sym (left ∙ go (eqb (recordOf l (kindAt l n) (numberAt l n) n) 0) (is ∙ t))) (λ (y : _≡_ {A = ℕ} 11 0). omega arith)
-        where
-          go : (b : Bool) → not b ≡ true → _≡_ {A = ℕ} (cond b 0 11) 11
-          go true h = absurd (false≢true h)
-          go false h = refl
+      module _ (met : List Bool) (g : Marked met (take place l)) where
+        is : not (isFresh (take place l) kind number) ≡ getD met m false
+        is = rw em (sym (g .marks kind number numbered))
 
-      module _ (t : getD met m false ≡ false) where
-        new : eqb (recordOf l (kindAt l n) (numberAt l n) n) 0 ≡ true
-        new = go (eqb (recordOf l (kindAt l n) (numberAt l n) n) 0) (is ∙ t)
+        pub mark-faulty : place < length l → getD met m false ≡ true → refused 11 ≡ readRule l
+        mark-faulty h t =
+            stop h 11 (sym (left ∙ ap (λ (b : Bool). cond b 0 11) (turned (isFresh (take place l) kind number) (is ∙ t)))) (λ (y : _≡_ {A = ℕ} 11 0). omega arith)
           where
-            go : (b : Bool) → not b ≡ false → b ≡ true
-            go true h = refl
-            go false h = absurd (false≢true (sym h))
+            turned : (b : Bool) → not b ≡ true → b ≡ false
+            turned true e = sym e
+            turned false e = refl
 
-        pub mark-good : faultIn l (n + 1) ≡ 0
-        unfolding faultIn
-        mark-good = rw (add-one, earlier-zero (faultIn l n) (recordRefusal l n) e, left, new)
+        module _ (t : getD met m false ≡ false) where
+          new : behindRefusal (take place l) (drop place l) ≡ 0
+          new = rw (← ex) (left ∙ ap (λ (b : Bool). cond b 0 11) (turned (isFresh (take place l) kind number) (is ∙ t)))
+            where
+              turned : (b : Bool) → not b ≡ false → b ≡ true
+              turned true e = refl
+              turned false e = sym e
 
-        -- the mark of another kind and number is another
-        other : (kind number : ℕ) → isNumber kind number ≡ true → (markOf kind number ≡ markOf (kindAt l n) (numberAt l n) → ⊥)
-            → getD (set met (markOf (kindAt l n) (numberAt l n)) true) (markOf kind number) false ≡ not (eqb (recordOf l kind number n) 0)
-        other kind number h u = getD-set-other met (markOf (kindAt l n) (numberAt l n)) (markOf kind number) true false u ∙ g .marks kind number h
+          module _ (size : ℕ) (es : size ≡ sizeOf kind) where
+            size-is : size ≡ sizeOf (kindOf (drop place l))
+            size-is = es ∙ rw (ea, ex)
 
-        pub mark-more : Marked (set met m true) l (n + 1)
-        unfolding recordOf isRecord markOf
-        mark-more =
-            record {
-              size = simp length-set (g .size);
-              marks = λ kind number h. rw (add-one, f) (go kind number h (eqb (kindAt l n) kind) (eqb (numberAt l n) number) refl refl);
-            }
-          where
-            go : (kind number : ℕ) → isNumber kind number ≡ true → (a b : Bool) → eqb (kindAt l n) kind ≡ a → eqb (numberAt l n) number ≡ b
-                → getD (set met (markOf (kindAt l n) (numberAt l n)) true) (markOf kind number) false ≡ not (eqb (cond (a && b) (suc n) (recordOf l kind number n)) 0)
-            go kind number h true true x y =
-                let s : markOf kind number ≡ markOf (kindAt l n) (numberAt l n) = omega (arith, eqb-true (kindAt l n) kind x, eqb-true (numberAt l n) number y) in
-                let i : markOf (kindAt l n) (numberAt l n) < length met = rw (g .size) (mark-in (markOf (kindAt l n) (numberAt l n)) refl) in
-                rw (s, ne-eqb (suc n) 0 (λ (u : suc n ≡ 0). omega arith)) (getD-set-same met (markOf (kindAt l n) (numberAt l n)) true false i)
-            go kind number h true false x y =
-                other kind number h (λ (u : markOf kind number ≡ markOf (kindAt l n) (numberAt l n)).
-                eqb-false (numberAt l n) number y (omega (arith, in-range kind number h, body-ranged .number)))
-            go kind number h false b x y =
-                other kind number h (λ (u : markOf kind number ≡ markOf (kindAt l n) (numberAt l n)).
-                eqb-false (kindAt l n) kind x (omega (arith, in-range kind number h, body-ranged .number)))
+            pub read-more : Reached l (n + 1) (place + size)
+            read-more = rw size-is (reached-next l n place r new)
+
+            pub mark-more : Marked (set met m true) (take (place + size) l)
+            mark-more =
+                record {
+                  size = simp length-set (g .size);
+                  marks = λ k′ n′ h. rw (size-is, fresh-next l n place r new k′ n′, ← ex, em) (bool-case (isRecord x k′ n′) (same k′ n′) (other k′ n′ h));
+                }
+              where
+                same : (k′ n′ : ℕ) → isRecord x k′ n′ ≡ true
+                    → getD (set met (markOf kind number) true) (markOf k′ n′) false ≡ not (not (isRecord x k′ n′) && isFresh (take place l) k′ n′)
+                same k′ n′ e =
+                    let y = record-yes x k′ n′ e in
+                    let i : markOf kind number < length met = rw (g .size) (mark-in kind number body-markable) in
+                    rw (e, ← (y .0), ← (y .1), ← ea, ← eb) (getD-set-same met (markOf kind number) true false i)
+
+                other : (k′ n′ : ℕ) → isNumber k′ n′ ≡ true → isRecord x k′ n′ ≡ false
+                    → getD (set met (markOf kind number) true) (markOf k′ n′) false ≡ not (not (isRecord x k′ n′) && isFresh (take place l) k′ n′)
+                other k′ n′ h e =
+                    let u : markOf k′ n′ ≡ markOf kind number → ⊥ =
+                    λ v. let w = mark-own k′ n′ kind number (markable k′ n′ h) body-markable v in record-no x k′ n′ e (sym ea ∙ w .0) (sym eb ∙ w .1) in
+                    rw e (getD-set-other met (markOf kind number) (markOf k′ n′) true false u ∙ g .marks k′ n′ h)
+
+            pub read-less : place < length l → length l - (place + size) < length l - place
+            read-less h = omega (arith, es, size-least kind)
+
+            pub read-fits : length l * 1 < 2 ^ 63 → Fits w64 (place + size)
+            read-fits h = record { fits = omega (arith, read-more .within) }
+
+            pub count-fits : length l * 1 < 2 ^ 63 → Fits w64 (n + 1)
+            count-fits h = record { fits = omega (arith, r .within, r .small) }
+
+pub read-good : (l : List ℕ) (n place : ℕ) → Reached l n place → length l ≤ place → gives n ≡ readRule l
+unfolding readRule
+read-good l n place r h = outcome-yes 0 (listRefusal l) (reached-good l n place r h) n (records l) refl (reached-count l n place r h)
 
 pub ruleset read-laws = (
   needs,
-  none-faulty,
+  reached-start,
   none-marked,
-  starts,
   body-faulty,
-  body-ranged,
-  body-on,
-  mark-in,
+  body-markable,
+  mark-below,
   mark-faulty,
-  mark-good,
   mark-more,
+  read-more,
+  read-less,
+  read-fits,
+  count-fits,
   read-good,
 )
+
+-- ---- what the reader answered
+
+refused-some : (m x k : ℕ) → outcome m x ≡ refused k → k ≡ 0 → ⊥
+refused-some m x k f z =
+    let y : 0 ≡ m = sym (outcome-is m x k f ∙ z) in
+    let w : gives x ≡ refused k = outcome-yes 0 m y x x refl refl ∙ f in
+    let v : _≡_ {A = ℕ} 0 1 = cc in
+    omega arith
+
+module _ (l : List ℕ) (a : LabelCount) (e : labelCounted a ≡ readRule l) where
+  pub answered-good : (n : ℕ) → a ≡ Records n → listRefusal l ≡ 0
+  unfolding readRule
+  answered-good n q = outcome-gave (listRefusal l) (records l) n (sym e ∙ ap labelCounted q) .0
+
+  pub answered-refused : (k : ℕ) → a ≡ Uncounted k → (k ≡ listRefusal l) × (k ≡ 0 → ⊥)
+  unfolding readRule
+  answered-refused k q =
+      let f : outcome (listRefusal l) (records l) ≡ refused k = sym e ∙ ap labelCounted q in
+      (sym (outcome-is (listRefusal l) (records l) k f), refused-some (listRefusal l) (records l) k f)

@@ -2,7 +2,6 @@ pub mod CueNumbers
 pub mod CueWords
 pub mod CueReading
 pub mod CueGiven
-pub mod LabelRecord
 pub mod LabelReading
 pub mod LabelFinding
 pub mod LabelAdding

@@ -1,13 +1,14 @@
--- Cue lines: 01, "Cue lines and labels". `MIC n TO LSP m GAIN g` is seven words; the line is its own store. Assumes nothing.
+-- Cue lines: 01, "Cue lines and labels". `MIC n TO LSP m GAIN g` is seven words; the line is its own store. Assumes
+-- nothing.
 use Prim.Native.Nat.{ℕ, _-_}
 use mathlib.Core.Bool.{Bool, _&&_}
-use mathlib.Core.List.{List, [], _∷_}
+use mathlib.Core.List.{List, [], _∷_, _++_}
 use lib.Dec.{eqb, leb}
 use lib.IntN.{ℤ, pos, negsuc, natAbs}
 use lib.ListN.{length, getD}
 use lib.Signed.{leZ}
-use Rattle.number.specs.Limits.{inRange}
-use Rattle.number.specs.Text.{isNumber, numberOf}
+use Rattle.number.specs.Number.{ofText}
+use Rattle.number.specs.Text.{numberOf}
 use Rattle.strlib.specs.Pointer.{storeFits, characters}
 use Rattle.strlib.specs.Quoted.{bytes}
 use Rattle.strlib.specs.Refusal.{Outcome, refused, gives, first, outcome}
@@ -53,18 +54,25 @@ isIndex size z = leZ (pos 1) z && leZ z (pos size)
 unfoldable pub isGain : ℤ → Bool
 isGain z = leZ (negsuc 959) z && leZ z (pos 120)
 
--- the checks of a cue line, in their order: 3 and 2 as in every call, 11, then 7 or 8 of the numbers from left to right, then 12
+-- the checks of a cue line, in their order: 3 and 2 as in every call, and 11 of a line that is too long
+abbrev pub lineChecks : List ℕ → ℕ → ℕ → List (ℕ × Bool)
+lineChecks line mics lsps =
+    (3, storeFits line) ∷ (3, isSize 64 mics) ∷ (3, isSize 128 lsps) ∷ (2, characters line) ∷ (11, leb (length line) 80) ∷ []
+
+-- 12 of the numbers against the matrix
+abbrev pub matrixChecks : ℕ → ℕ → ℤ → ℤ → ℤ → List (ℕ × Bool)
+matrixChecks mics lsps n m g = (12, isIndex mics n) ∷ (12, isIndex lsps m) ∷ (12, isGain g) ∷ []
+
+-- 7 or 8 of the numbers from left to right, then the matrix
+abbrev pub numberChecks : ℕ → ℕ → List ℕ → List ℕ → List ℕ → List (ℕ × Bool)
+numberChecks mics lsps a b c = ofText 10 a ++ (ofText 10 b ++ (ofText 10 c ++ matrixChecks mics lsps (numberOf 10 a) (numberOf 10 b) (numberOf 10 c)))
+
+-- 11 of the words, then the numbers
+abbrev pub wordChecks : List ℕ → ℕ → ℕ → List (ℕ × Bool)
+wordChecks line mics lsps = (11, formed line) ∷ numberChecks mics lsps (micWord line) (lspWord line) (gainWord line)
+
 abbrev pub cueChecks : List ℕ → ℕ → ℕ → List (ℕ × Bool)
-cueChecks line mics lsps =
-    (3, storeFits line) ∷ (3, isSize 64 mics) ∷ (3, isSize 128 lsps)
-    ∷ (2, characters line)
-    ∷ (11, leb (length line) 80) ∷ (11, formed line)
-    ∷ (7, isNumber 10 (micWord line)) ∷ (8, inRange (numberOf 10 (micWord line)))
-    ∷ (7, isNumber 10 (lspWord line)) ∷ (8, inRange (numberOf 10 (lspWord line)))
-    ∷ (7, isNumber 10 (gainWord line)) ∷ (8, inRange (numberOf 10 (gainWord line)))
-    ∷ (12, isIndex mics (numberOf 10 (micWord line)))
-    ∷ (12, isIndex lsps (numberOf 10 (lspWord line)))
-    ∷ (12, isGain (numberOf 10 (gainWord line))) ∷ []
+cueChecks line mics lsps = lineChecks line mics lsps ++ wordChecks line mics lsps
 
 -- its refusal, 0 for none
 unfoldable pub cueRefusal : List ℕ → ℕ → ℕ → ℕ

@@ -1,24 +1,16 @@
 -- What the functions of a cue line promise one another. Assumes nothing.
 use Prim.Native.Nat.{ℕ}
-use mathlib.Core.Bool.{Bool, cond}
-use mathlib.Core.List.{List, [], _∷_}
+use mathlib.Core.Bool.{cond}
+use mathlib.Core.List.{List}
 use lib.Dec.{leb}
 use lib.IntN.{ℤ, pos, negsuc}
-use lib.ListN.{length}
-use Rattle.strlib.specs.Pointer.{storeFits, characters}
 use Rattle.strlib.specs.Refusal.{Outcome, refused, gives, first, outcome}
 use Rattle.desk.specs.declared.cue.Cue.{Cue}
-use Rattle.desk.specs.Cue.{isSize, isIndex, isGain, cueOf}
+use Rattle.desk.specs.Cue.{lineChecks, matrixChecks, cueOf}
 
--- the checks before the numbers, and the refusal that they find
-abbrev pub lineChecks : List ℕ → ℕ → ℕ → Bool → List (ℕ × Bool)
-lineChecks line mics lsps form =
-    (3, storeFits line) ∷ (3, isSize 64 mics) ∷ (3, isSize 128 lsps)
-    ∷ (2, characters line)
-    ∷ (11, leb (length line) 80) ∷ (11, form) ∷ []
-
-unfoldable pub lineRefusal : List ℕ → ℕ → ℕ → Bool → ℕ
-lineRefusal line mics lsps form = first (lineChecks line mics lsps form)
+-- the refusal that the checks before the words find, 0 for none
+unfoldable pub lineRefusal : List ℕ → ℕ → ℕ → ℕ
+lineRefusal line mics lsps = first (lineChecks line mics lsps)
 
 -- the number from 1 to the most that z is, or 0
 unfoldable pub indexOf : ℕ → ℤ → ℕ
@@ -27,7 +19,7 @@ indexOf most (negsuc n) = 0
 
 -- three numbers against the matrix
 unfoldable pub inMatrix : ℕ → ℕ → ℤ → ℤ → ℤ → Outcome Cue
-inMatrix mics lsps n m g = outcome (first ((12, isIndex mics n) ∷ (12, isIndex lsps m) ∷ (12, isGain g) ∷ [])) (cueOf n m g)
+inMatrix mics lsps n m g = outcome (first (matrixChecks mics lsps n m g)) (cueOf n m g)
 
 -- the refusals of three numbers from left to right, then the matrix
 unfoldable pub inOrder : ℕ → ℕ → Outcome ℤ → Outcome ℤ → Outcome ℤ → Outcome Cue

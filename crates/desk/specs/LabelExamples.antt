@@ -8,8 +8,10 @@ use Rattle.strlib.specs.Pointer.{pointer, textOf, all}
 use Rattle.strlib.specs.Refusal.{refused, gives, nowhere, at, outcome, after, ruled}
 use Rattle.strlib.specs.Store.{put}
 use Rattle.cutting.specs.Cutting.{blanks, trimmed}
-use Rattle.desk.specs.Label.{limitOf, isKind, isNumber, isName, numberAt, nameAt, isRecord, recordOf, recordRefusal, earlier, faultIn, records}
-use Rattle.desk.specs.Label.{listRefusal, readRule, keyRefusal, nameOf, findRule, namePart, labelBytes, newRefusal, addRefusal, addRule}
+use Rattle.records.specs.Walk.{lastOf}
+use Rattle.records.specs.Record.{widthOf, sizeOf, limitOf, isKind, isNumber, isName, kindOf, numberOf, nameIn, placeOf, recordAt, records, isRecord, recordOf}
+use Rattle.records.specs.Record.{isFresh, bodyRefusal, behindRefusal, recordRefusal, earlier, faultIn, listRefusal, keyRefusal, newRefusal, padded, labelBytes}
+use Rattle.desk.specs.Label.{readRule, nameOf, findRule, namePart, addRefusal, addRule}
 
 -- microphone 7 and loudspeaker 31
 abbrev pub cello : List ℕ
@@ -54,9 +56,9 @@ pub record Examples : Type 0 where
   pub name-first : readRule (cello ++ plain 1 0 7 127) ≡ refused 2
   pub first-record : readRule (plain 1 0 1 127 ++ plain 3 0 0 127) ≡ refused 2
   -- the lookup, which gives the place from 0 and the trimmed length
-  pub found : findRule (cello ++ stalls) 2 31 ≡ gives (at (pointer 22 11 11))
-  pub found-first : findRule (cello ++ stalls) 1 7 ≡ gives (at (pointer 3 5 5))
-  pub found-blank : findRule (plain 1 0 1 32) 1 1 ≡ gives (at (pointer 3 0 0))
+  pub found : findRule (cello ++ stalls) 2 31 ≡ gives (at (22, 11))
+  pub found-first : findRule (cello ++ stalls) 1 7 ≡ gives (at (3, 5))
+  pub found-blank : findRule (plain 1 0 1 32) 1 1 ≡ gives (at (3, 0))
   pub missing : findRule (cello ++ stalls) 1 31 ≡ gives nowhere
   -- the list's refusals, then the kind, then the number
   pub find-list : findRule (plain 1 0 1 127) 3 0 ≡ refused 2
@@ -87,8 +89,9 @@ pub record Examples : Type 0 where
 
 pub examples : Examples
 unfolding
-    limitOf isKind isNumber isName numberAt nameAt isRecord recordOf recordRefusal earlier faultIn records listRefusal readRule keyRefusal nameOf findRule namePart
-    labelBytes newRefusal addRefusal addRule pointer textOf all outcome after ruled put blanks trimmed
+    lastOf widthOf sizeOf limitOf isKind isNumber isName kindOf numberOf nameIn placeOf recordAt records isRecord recordOf isFresh bodyRefusal behindRefusal
+    recordRefusal earlier faultIn listRefusal keyRefusal newRefusal padded labelBytes readRule nameOf findRule namePart addRefusal addRule pointer textOf all
+    outcome after ruled put blanks trimmed
 examples =
     record {
       empty = refl;

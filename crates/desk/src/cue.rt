@@ -25,9 +25,9 @@ impl Cue {
     pub const LINE_MAX: usize = 80;
 
     // The largest matrix.
-    pub const MICROPHONES_MAX: usize = 64;
+    pub const MICROPHONES_MAX: usize = records::MICROPHONES_MAX;
 
-    pub const LOUDSPEAKERS_MAX: usize = 128;
+    pub const LOUDSPEAKERS_MAX: usize = records::LOUDSPEAKERS_MAX;
 
     // The range of a gain.
     pub const GAIN_MIN: i64 = -960;
@@ -86,16 +86,15 @@ fn is_size(size: usize, most: usize) -> bool
     strlib::both(1 <= size, size <= most)
 }
 
-// The refusals that come before the numbers.
-fn line_refusal(line: &[u8], mics: usize, lsps: usize, formed: bool) -> u8
-    ensures { λ r. ⌜ r ≡ lineRefusal (now (line .entry)) mics lsps formed ⌝ }
+// The refusals that come before the words.
+fn line_refusal(line: &[u8], mics: usize, lsps: usize) -> u8
+    ensures { λ r. ⌜ r ≡ lineRefusal (now (line .entry)) mics lsps ⌝ }
 {
     let found = strlib::check_store(line);
     let found = strlib::check(found, 3, is_size(mics, Cue::MICROPHONES_MAX));
     let found = strlib::check(found, 3, is_size(lsps, Cue::LOUDSPEAKERS_MAX));
-    let found = strlib::check_readable(found, line, StrPtr::full(0, line.len()));
-    let found = strlib::check(found, 11, line.len() <= Cue::LINE_MAX);
-    strlib::check(found, 11, formed)
+    let found = strlib::check_characters(found, line);
+    strlib::check(found, 11, line.len() <= Cue::LINE_MAX)
 }
 
 // The number as one from 1 to `most`, or 0.
@@ -160,13 +159,16 @@ fn in_order(
 pub fn read_cue(line: &[u8], mics: usize, lsps: usize) -> CueAnswer
     ensures { λ r. ⌜ cueAnswered r ≡ cueRule (now (line .entry)) mics lsps ⌝ }
 {
-    let list = first_words(line);
-    let found = line_refusal(line, mics, lsps, has_form(line, list));
+    let found = line_refusal(line, mics, lsps);
     if found != 0 {
         return CueAnswer::Refused(found);
     }
-    let n = number::read(line, list[1], BASE);
-    let m = number::read(line, list[4], BASE);
-    let g = number::read(line, list[6], BASE);
-    in_order(mics, lsps, n, m, g)
+    let list = first_words(line);
+    if has_form(line, list) {
+        let n = number::read(line, list[1], BASE);
+        let m = number::read(line, list[4], BASE);
+        let g = number::read(line, list[6], BASE);
+        return in_order(mics, lsps, n, m, g);
+    }
+    CueAnswer::Refused(11)
 }

@@ -96,16 +96,16 @@ module _ (a : CharAnswer) where
 
 module _ (a : LabelPlace) where
   pub name-found : (place length : ℕ) → a ≡ Named place length → _≡_ {A = FlatName} (record { refusal = 0; found = true; place = place; length = length }) (flatName (labelPlaced a))
-  unfolding flatName pointer
+  unfolding flatName
   name-found place length e = rw e
 
   module _ (r : FlatName) where
     pub name-nothing : a ≡ Missing → r ≡ noName 0 → r ≡ flatName (labelPlaced a)
-    unfolding flatName pointer
+    unfolding flatName
     name-nothing e h = rw e h
 
     pub name-refused : (n : ℕ) → a ≡ Unnamed n → r ≡ noName n → r ≡ flatName (labelPlaced a)
-    unfolding flatName pointer
+    unfolding flatName
     name-refused n e h = rw e h
 
 -- the name as a part

@@ -2,7 +2,6 @@
 use Prim.Native.Nat.{ℕ}
 use mathlib.Core.Bool.{true, false}
 use Rattle.strlib.specs.Refusal.{Outcome, refused, gives, Sought, nowhere, at}
-use Rattle.strlib.specs.declared.StrPtr.{StrPtr}
 use Rattle.search.specs.Search.{Result, nothing, found}
 use Rattle.search.specs.declared.Match.{Match}
 use Rattle.search.specs.declared.Split.{Split}
@@ -52,7 +51,7 @@ flatCharacter (gives (at c)) = record { refusal = 0; found = true; code = c .cod
 abbrev pub noName : ℕ → FlatName
 noName n = record { refusal = n; found = false; place = 0; length = 0 }
 
-unfoldable pub flatName : Outcome (Sought StrPtr) → FlatName
+unfoldable pub flatName : Outcome (Sought (ℕ × ℕ)) → FlatName
 flatName (refused n) = noName n
 flatName (gives nowhere) = noName 0
-flatName (gives (at p)) = record { refusal = 0; found = true; place = p .start; length = p .length }
+flatName (gives (at (place, n))) = record { refusal = 0; found = true; place = place; length = n }

@@ -3,3 +3,4 @@ pub mod Writing
 pub mod Blanking
 pub mod Turning
 pub mod Keeping
+pub mod Pasting

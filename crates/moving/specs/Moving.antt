@@ -1,4 +1,4 @@
--- What moving, blanks and reversal leave in a store: 01, "Copying". Outside the store nothing is written. Assumes nothing.
+-- What moving, blanks, bytes and reversal leave in a store: 01, "Copying". Outside the store nothing is written. Assumes nothing.
 use Prim.Native.Nat.{ℕ, _+_}
 use mathlib.Core.Bool.{cond, _&&_}
 use mathlib.Core.List.{List, [], _∷_, _++_}
@@ -17,6 +17,10 @@ written s at n ys = cond (within (length s) at n) (put s at ys) s
 -- s with n blanks written from index at on
 unfoldable pub blanked : List ℕ → ℕ → ℕ → List ℕ
 blanked s at n = written s at n (replicate n 32)
+
+-- s with bytes written from index at on
+unfoldable pub pasted : List ℕ → ℕ → List ℕ → List ℕ
+pasted s at xs = written s at (length xs) xs
 
 -- characters from the last to the first
 unfoldable pub reversed : List ℕ → List ℕ

@@ -8,3 +8,4 @@ pub mod ReadBack
 pub mod RoundTrip
 pub mod Fewest
 pub mod Goodness
+pub mod Telling

@@ -42,6 +42,11 @@ pub put-length : (s : List ℕ) (at : ℕ) (xs : List ℕ) → at + length xs �
 unfolding put
 put-length s at xs h = rw (length-append, length-append, length-take, length-drop) (omega arith)
 
+-- what stands up to the end of what was put
+pub put-head : (s : List ℕ) (at : ℕ) (xs : List ℕ) (m : ℕ) → length (take at s ++ xs) ≡ m → take m (put s at xs) ≡ take at s ++ xs
+unfolding put
+put-head s at xs m e = take-at (take at s ++ xs) (drop (at + length xs) s) m e
+
 -- one byte stored is one byte put
 pub set-put : (s : List ℕ) (at v : ℕ) → at < length s → set s at v ≡ put s at (v ∷ [])
 unfolding put

@@ -8,7 +8,7 @@ use lib.Dec.{leb}
 use lib.ListN.{length, take, drop, getD, length-map}
 use lib.Seq.{drop-nil}
 use borrow.Author.Tests.{leb-true}
-use Rattle.strlib.proofs.Listing.{all-at}
+use Rattle.strlib.proofs.Listing.{all-at, all-take, all-drop}
 use Rattle.strlib.proofs.Refusing.{bool-case}
 use Rattle.strlib.specs.Pointer.{textOf, texts, all, characters, readable}
 use Rattle.strlib.specs.declared.StrPtr.{StrPtr}
@@ -16,6 +16,11 @@ use Rattle.strlib.specs.declared.StrPtr.{StrPtr}
 pub character-at : (h : List ℕ) (i : ℕ) → characters h ≡ true → i < length h → getD h i 0 ≤ 127
 unfolding characters
 character-at h i e l = leb-true (getD h i 0) 127 (all-at (λ x. leb x 127) h i 0 e l)
+
+-- a string of a store all of whose bytes are characters may be read
+pub part-readable : (s : List ℕ) (p : StrPtr) → characters s ≡ true → readable s p ≡ true
+unfolding readable textOf characters
+part-readable s p e = all-take (λ x. leb x 127) (drop (p .start) s) (p .length) (all-drop (λ x. leb x 127) s (p .start) e)
 
 pub characters-append : (a b : List ℕ) → characters (a ++ b) ≡ (characters a && characters b)
 unfolding characters all

@@ -77,11 +77,11 @@ cue-is = keeps flatCue
 pub size-is : (r : FlatSize) (x y : Outcome ℕ) → r ≡ flatSize x → x ≡ y → r ≡ flatSize y
 size-is = keeps flatSize
 
-pub name-is : (r : FlatName) (x y : Outcome (Sought StrPtr)) → r ≡ flatName x → x ≡ y → r ≡ flatName y
+pub name-is : (r : FlatName) (x y : Outcome (Sought (ℕ × ℕ))) → r ≡ flatName x → x ≡ y → r ≡ flatName y
 name-is = keeps flatName
 
-pub name-part-is : (r : FlatPart) (x y : Outcome (Sought StrPtr)) → r ≡ flatPart (namePart x) → x ≡ y → r ≡ flatPart (namePart y)
-name-part-is = keeps (λ (x : Outcome (Sought StrPtr)). flatPart (namePart x))
+pub name-part-is : (r : FlatPart) (x y : Outcome (Sought (ℕ × ℕ))) → r ≡ flatPart (namePart x) → x ≡ y → r ≡ flatPart (namePart y)
+name-part-is = keeps (λ (x : Outcome (Sought (ℕ × ℕ))). flatPart (namePart x))
 
 -- the translation is the one that was passed
 pub comparison-is : (r : FlatComparison) (x : Outcome Comparison) (s : List ℕ) (string1 string2 : StrPtr) (code style : ℕ) (t passed : ℤ) → r ≡ flatComparison x

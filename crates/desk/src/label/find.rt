@@ -1,12 +1,11 @@
 // Looking up a label by kind and number.
 use super::read;
 use super::read::LabelCount;
-use strlib::StrPtr;
 ghost use mathlib.Core.Path.{_≡_};
 ghost use Rattle.strlib.specs.Refusal.{gives};
 ghost use Rattle.cutting.specs.Part.{IsPart};
 ghost use Rattle.desk.specs.Label.{nameOf, labelPlaced, findRule, namePart};
-ghost use Rattle.desk.specs.LabelInner.{Begins};
+ghost use Rattle.desk.specs.LabelInner.{Counted};
 
 // The answer of a lookup: where the trimmed name lies in the list.
 pub enum LabelPlace {
@@ -17,14 +16,15 @@ pub enum LabelPlace {
 
 // The name of record k, counted from 1; missing for 0.
 fn name_of(list: &[u8], k: usize) -> LabelPlace
-    requires { ⌜ Begins (now list) k ⌝ }
+    requires { ⌜ Counted (now list) k ⌝ }
     ensures { λ r. ⌜ labelPlaced r ≡ gives (nameOf (now (list .entry)) k) ⌝ }
 {
     if k == 0 {
         return LabelPlace::Missing;
     }
-    let place = super::RECORD * (k - 1) + super::HEAD;
-    let name = cutting::trimmed_part(strlib::text(list, StrPtr::full(place, super::NAME)));
+    let rest = records::record_at(list, k - 1);
+    let place = list.len() - rest.len() + records::HEAD;
+    let name = cutting::trimmed_part(records::name_in(rest));
     let length = name.len();
     LabelPlace::Found { place, length }
 }
@@ -34,12 +34,12 @@ pub fn find_label(list: &[u8], kind: u8, number: usize) -> LabelPlace
 {
     let count = read::read_labels(list);
     match count {
-        LabelCount::Records(n) => {
-            let found = super::key_refusal(kind, number);
+        LabelCount::Records(_) => {
+            let found = records::key_refusal(kind, number);
             if found != 0 {
                 return LabelPlace::Refused(found);
             }
-            name_of(list, super::find_record(list, kind, number, n))
+            name_of(list, records::find_record(list, kind, number))
         }
         LabelCount::Refused(found) => LabelPlace::Refused(found),
     }

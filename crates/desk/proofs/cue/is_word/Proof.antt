@@ -1,3 +1,4 @@
+use Rattle.desk.proofs.CueWords.{word-laws}
 use Rattle.desk.proofs.cue.is_word.Statement.{statement}
 use Rattle.desk.proofs.cue.is_word.Tie as tie
 
@@ -7,4 +8,4 @@ is-word-spec =
     (tie.spec
     (λ c κs. tt)
     (λ c κs. tt)
-    (λ c. cc))
+    (λ c. search word-laws))

@@ -1,4 +1,4 @@
-use Rattle.desk.proofs.CueReading.{line-checked}
+use Rattle.desk.proofs.CueReading.{line-laws}
 use Rattle.desk.proofs.cue.line_refusal.Statement.{statement}
 use Rattle.desk.proofs.cue.line_refusal.Tie as tie
 
@@ -13,6 +13,4 @@ line-refusal-spec =
     (λ c κs. tt)
     (λ c κs. tt)
     (λ c κs. tt)
-    (λ c κs. tt)
-    (λ c κs. tt)
-    (λ c. line-checked _ _ _ _ _ (cc)))
+    (λ c. search line-laws))

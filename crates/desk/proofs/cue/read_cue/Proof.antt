@@ -7,9 +7,9 @@ read-cue-spec =
     tie.close
     (tie.spec
     (λ c κs. tt)
+    (λ c. search cue-laws)
+    (λ c κs. tt)
     (λ c κs. search cue-laws)
-    (λ c κs. tt)
-    (λ c. search cue-laws)
     (λ c. search cue-laws)
     (λ c κs. tt)
     (λ c. search cue-laws)
@@ -17,4 +17,5 @@ read-cue-spec =
     (λ c. search cue-laws)
     (λ c κs. tt)
     (λ c κs. tt)
+    (λ c. search cue-laws)
     (λ c. search cue-laws))

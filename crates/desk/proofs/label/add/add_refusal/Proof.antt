@@ -8,10 +8,10 @@ add-refusal-spec =
     (tie.spec
     (λ c. search refusal-laws)
     (λ c. search refusal-laws)
-    (λ c κs. search refusal-laws)
+    (λ c κs. tt)
     (λ c. search refusal-laws)
     (λ c. search refusal-laws)
-    (λ c κs. search refusal-laws)
+    (λ c κs. tt)
     (λ c. search refusal-laws)
     (λ c. search refusal-laws)
     (λ c. search refusal-laws))

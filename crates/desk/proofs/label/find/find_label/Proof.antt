@@ -6,11 +6,11 @@ pub find-label-spec : {M : Type 1} → statement M
 find-label-spec =
     tie.close
     (tie.spec
-    (λ c κs. search find-laws)
+    (λ c κs. tt)
     (λ c. search find-laws)
-    (λ c κs. search find-laws)
+    (λ c κs. tt)
     (λ c. search find-laws)
-    (λ c κs. search find-laws)
+    (λ c κs. tt)
     (λ c κs. search find-laws)
     (λ c. search find-laws)
     (λ c. search find-laws)

@@ -8,9 +8,9 @@ name-of-spec =
     (tie.spec
     (λ c. search place-laws)
     (λ c. search place-laws)
+    (λ c κs. tt)
     (λ c. search place-laws)
     (λ c. search place-laws)
-    (λ c κs. search place-laws)
-    (λ c κs. search place-laws)
-    (λ c κs. search place-laws)
+    (λ c κs. tt)
+    (λ c κs. tt)
     (λ c. search place-laws))

@@ -1,16 +1,15 @@
-use mathlib.Core.Path.{_≡_}
-use Prim.Native.Nat.{_-_, _*_, _≤_}
-use lib.ListN.{length}
+use Prim.Native.Nat.{_-_}
+use lib.ListN.{length, take}
+use Rattle.records.proofs.Reading.{Reached}
 use Rattle.desk.proofs.LabelReading.{Marked, read-laws}
-use Rattle.desk.specs.Label.{recordSize, faultIn}
 use Rattle.desk.proofs.label.read.read_labels.Statement.{statement}
 use Rattle.desk.proofs.label.read.read_labels.Tie as tie
 
 abbrev Inv-loop : tie.InvT-loop
-Inv-loop list met₀ n₀ met n = (recordSize * n ≤ length list) × (faultIn list n ≡ 0) × Marked met list n
+Inv-loop list met₀ at₀ n₀ met at n = Reached list n at × Marked met (take at list)
 
 abbrev μ-loop : tie.MeasureT-loop
-μ-loop list met₀ n₀ met n = length list - n
+μ-loop list met₀ at₀ n₀ met at n = length list - at
 
 pub read-labels-spec : {M : Type 1} → statement M
 read-labels-spec =
@@ -19,12 +18,16 @@ read-labels-spec =
     Inv-loop
     μ-loop
     (λ c. search read-laws)
+    (λ c κs. tt)
+    (λ c κs. tt)
     (λ c. search read-laws)
+    (λ c κs. tt)
+    (λ c κs. tt)
     (λ c κs. search read-laws)
     (λ c. search read-laws)
-    (λ c κs. search read-laws)
     (λ c. search read-laws)
     (λ c. search read-laws)
+    (λ c κs. tt)
     (λ c. search read-laws)
     (λ c. search read-laws)
     (λ c. search read-laws)

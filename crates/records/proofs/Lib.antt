@@ -1,0 +1,12 @@
+pub mod Walking
+pub mod Limits
+pub mod Sizes
+pub mod Fronts
+pub mod Goodness
+pub mod Likeness
+pub mod Bytes
+pub mod Reading
+pub mod Checking
+pub mod Seeking
+pub mod Building
+pub mod Adding

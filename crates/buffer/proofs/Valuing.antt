@@ -33,7 +33,7 @@ value-room (negsuc n) h = omega (arith, digits-under 10 10 (suc n) (omega arith)
 room-gives : (s : List ℕ) (z : ℤ) → length s ≡ 12 → inRange z ≡ true → writeRule s (pointer 0 0 12) z 10 .0 ≡ gives (sized (pointer 0 0 12) (length (written 10 z)))
 unfolding storeFits pointer isBase
 room-gives s z l h =
-    let p : StrPtr = record { start = 0; length = 0; maximum = 12 } in
+    let p : StrPtr = pointer 0 0 12 in
     round-trip .calls s p z 10 (le-leb (length s) 65536 (omega arith)) refl (is-good (length s) p (omega arith) (omega arith)) h (value-room z h) .0
 
 module _ (b : List ℕ) (n : ℕ) (b′ : List ℕ) (r : ℕ) (s s′ : List ℕ) (p : StrPtr) (z z′ : ℤ) (a : StrAnswer)

@@ -255,7 +255,7 @@ bursts-search ss old new table b bs short n plain =
     go : (h : List ℕ) → h ≡ joined (b ∷ bs) → length h ≤ 65536 → Searched ss new (b ∷ bs)
     go h e l =
         let is : textOf h (alone h l) ≡ h = alone-text h l in
-        let host : Host h (alone h l) = record { fits = alone-fits h l; good = alone-good h l; read = ap characters (is ∙ e) ∙ plain } in
+        let host : Host h (alone h l) = record { fits = alone-fits h l; good = alone-good h l; plain = ap characters (is ∙ e) ∙ plain } in
         let (m, ran) = noted (runRule h (alone h l) new) (plainSearch ss (textOf h (alone h l))) (table .finds h (alone h l) host) in
         searched ss old new table b bs h (alone h l) (is ∙ e) m ran
         (carried-answer (bursts fresh (b ∷ bs) new) (plainSearch ss (textOf h (alone h l))) m

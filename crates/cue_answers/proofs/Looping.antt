@@ -17,7 +17,7 @@ use Rattle.endings.specs.declared.Ending.the-variants.{Unopened}
 use Rattle.answers.proofs.Running.{begun-size, run-writes}
 use Rattle.answers.specs.Run.{Stage, stage, afterRead, wrote, begun, Event, turned, ran, answerRoom, Roomy}
 use Rattle.answers.specs.declared.turns.Run.{Run}
-use Rattle.cue_answers.specs.Loop.{Room, Tried, from, Possible, Turned, Going, Turns, AllTurns, Answering, OfFile}
+use Rattle.cue_answers.specs.Loop.{Room, Tried, from, Possible, Turned, Going, TurnsMade, AllTurns, Answering, OfFile}
 
 -- ---- a write and a turn
 
@@ -56,13 +56,13 @@ going-behind : (n : ℕ) (es : List Event) (e : Event) (g : Stage) → Going n e
 going-behind n [] e g w b p = (b, (p, tt))
 going-behind n (d ∷ es) e g w b p = (w .0, (w .1 .0, going-behind n es e (turned d g) (w .1 .1) b p))
 
-pub turns-start : (run : Run) (p h o : List ℕ) → Room p o → Turns run (length p) h o 18446744073709551615 run h o
+pub turns-start : (run : Run) (p h o : List ℕ) → Room p o → TurnsMade run (length p) h o 18446744073709551615 run h o
 unfolding stage
 turns-start run p h o a = record { events = []; went = tt; room = a .last; count = refl; is = refl }
 
 pub turns-more : (run : Run) (p h o : List ℕ) (spare : ℕ) (r : Run) (h′ o′ : List ℕ) (b : Bool) (piece : List ℕ) (r″ : Run) (h″ o″ : List ℕ) → Room p o
-    → Turns run (length p) h o spare r h′ o′ → 0 < spare → b ≡ isGoing (r .ending) → b ≡ true → Turned r piece h′ o′ r″ h″ o″ → length piece ≡ length p
-    → Turns run (length p) h o (spare - 1) r″ h″ o″
+    → TurnsMade run (length p) h o spare r h′ o′ → 0 < spare → b ≡ isGoing (r .ending) → b ≡ true → Turned r piece h′ o′ r″ h″ o″ → length piece ≡ length p
+    → TurnsMade run (length p) h o (spare - 1) r″ h″ o″
 unfolding stage
 turns-more run p h o spare r h′ o′ b piece r″ h″ o″ a f g eb y t l =
     let e : Event = t .event in
@@ -77,7 +77,7 @@ turns-more run p h o spare r h′ o′ b piece r″ h″ o″ a f g eb y t l =
       is = t .is ∙ ap (turned e) (f .is) ∙ sym (ran-behind (f .events) e (from run h o));
     }
 
-module _ (run : Run) (n : ℕ) (h o : List ℕ) (spare : ℕ) (r : Run) (h′ o′ : List ℕ) (f : Turns run n h o spare r h′ o′) where
+module _ (run : Run) (n : ℕ) (h o : List ℕ) (spare : ℕ) (r : Run) (h′ o′ : List ℕ) (f : TurnsMade run n h o spare r h′ o′) where
   pub turns-ended : (b : Bool) → b ≡ isGoing (r .ending) → b ≡ false → AllTurns run n h o r h′ o′
   turns-ended b e z = record { spare = spare; turns = f; over = λ (y : isGoing (r .ending) ≡ true). absurd (true≢false (sym y ∙ sym e ∙ z)) }
 

@@ -47,7 +47,7 @@ Going n [] g = Unit
 Going n (e ∷ es) g = (isGoing (g .run .ending) ≡ true) × (Possible n g e × Going n es (turned e g))
 
 -- turns one behind the other, with room for the answers to each piece; so many are spare of 2^64 − 1
-pub record Turns (run : Run) (n : ℕ) (h o : List ℕ) (spare : ℕ) (r : Run) (h′ o′ : List ℕ) : Type 0 where
+pub record TurnsMade (run : Run) (n : ℕ) (h o : List ℕ) (spare : ℕ) (r : Run) (h′ o′ : List ℕ) : Type 0 where
   pub events : List Event
   pub went : Going n events (from run h o)
   pub room : Roomy (length o) events
@@ -57,7 +57,7 @@ pub record Turns (run : Run) (n : ℕ) (h o : List ℕ) (spare : ℕ) (r : Run) 
 -- turns as long as the run goes on, until none is spare
 pub record AllTurns (run : Run) (n : ℕ) (h o : List ℕ) (r : Run) (h′ o′ : List ℕ) : Type 0 where
   pub spare : ℕ
-  pub turns : Turns run n h o spare r h′ o′
+  pub turns : TurnsMade run n h o spare r h′ o′
   pub over : isGoing (r .ending) ≡ true → spare ≡ 0
 
 -- a run from its heading on, with a buffer o for answers, and how it ended: what it is told to write is what a run of its turns is

@@ -13,7 +13,7 @@ use Rattle.strlib.proofs.Refusing.{and-both}
 use Rattle.strlib.proofs.Pointing.{leb-same}
 use Rattle.strlib.specs.Pointer.{all}
 use Rattle.strlib.specs.declared.StrPtr.{StrPtr}
-use Rattle.cutting.specs.Cutting.{blanks, trimmed, second, countedIn, betweenIn, inBounds}
+use Rattle.cutting.specs.Cutting.{isBlank, trimmedLength, second, countedIn, betweenIn, inBounds}
 use Rattle.cutting.specs.declared.Cut.{Cut}
 use Rattle.cutting.specs.declared.Cut.the-variants.{Relative, Counted, Between, Trimmed}
 
@@ -119,73 +119,73 @@ pub ruleset bounds-laws = (
 
 -- ---- trailing blanks
 
-blanks-more : (s : List ℕ) → blanks (s ++ (32 ∷ [])) ≡ blanks s
-unfolding blanks all
+blanks-more : (s : List ℕ) → isBlank (s ++ (32 ∷ [])) ≡ isBlank s
+unfolding isBlank all
 blanks-more [] = refl
 blanks-more (x ∷ s) = ap (λ (b : Bool). eqb x 32 && b) (blanks-more s)
 
-blanks-other : (s : List ℕ) (y : ℕ) → (y ≡ 32 → ⊥) → blanks (s ++ (y ∷ [])) ≡ false
-unfolding blanks all
+blanks-other : (s : List ℕ) (y : ℕ) → (y ≡ 32 → ⊥) → isBlank (s ++ (y ∷ [])) ≡ false
+unfolding isBlank all
 blanks-other [] y h = simp (ne-eqb y 32 h)
 blanks-other (x ∷ s) y h = rw (blanks-other s y h) (and-false (eqb x 32))
 
-pub trimmed-blank : (s : List ℕ) → trimmed (s ++ (32 ∷ [])) ≡ trimmed s
-unfolding trimmed blanks all
+pub trimmed-blank : (s : List ℕ) → trimmedLength (s ++ (32 ∷ [])) ≡ trimmedLength s
+unfolding trimmedLength isBlank all
 trimmed-blank [] = refl
 trimmed-blank (x ∷ s) = rw (blanks-more (x ∷ s), trimmed-blank s)
 
-pub trimmed-padded : (k : ℕ) (s : List ℕ) → trimmed (s ++ replicate k 32) ≡ trimmed s
-trimmed-padded zero s = ap trimmed (append-nil s)
-trimmed-padded (suc k) s = ap trimmed (sym (append-snoc s 32 (replicate k 32))) ∙ trimmed-padded k (s ++ (32 ∷ [])) ∙ trimmed-blank s
+pub trimmed-padded : (k : ℕ) (s : List ℕ) → trimmedLength (s ++ replicate k 32) ≡ trimmedLength s
+trimmed-padded zero s = ap trimmedLength (append-nil s)
+trimmed-padded (suc k) s = ap trimmedLength (sym (append-snoc s 32 (replicate k 32))) ∙ trimmed-padded k (s ++ (32 ∷ [])) ∙ trimmed-blank s
 
-trimmed-other : (s : List ℕ) (y : ℕ) → (y ≡ 32 → ⊥) → trimmed (s ++ (y ∷ [])) ≡ suc (length s)
-unfolding trimmed
+trimmed-other : (s : List ℕ) (y : ℕ) → (y ≡ 32 → ⊥) → trimmedLength (s ++ (y ∷ [])) ≡ suc (length s)
+unfolding trimmedLength
 trimmed-other [] y h = rw (blanks-other [] y h)
 trimmed-other (x ∷ s) y h = rw (blanks-other (x ∷ s) y h, trimmed-other s y h)
 
-pub trimmed-le : (s : List ℕ) → trimmed s ≤ length s
-unfolding trimmed
+pub trimmed-le : (s : List ℕ) → trimmedLength s ≤ length s
+unfolding trimmedLength
 trimmed-le [] = omega arith
-trimmed-le (x ∷ s) = go (blanks (x ∷ s)) (trimmed-le s)
+trimmed-le (x ∷ s) = go (isBlank (x ∷ s)) (trimmed-le s)
   where
-    go : (b : Bool) → trimmed s ≤ length s → cond b 0 (suc (trimmed s)) ≤ suc (length s)
+    go : (b : Bool) → trimmedLength s ≤ length s → cond b 0 (suc (trimmedLength s)) ≤ suc (length s)
     go true h = omega arith
     go false h = omega arith
 
-pub trim-start : (s : List ℕ) → trimmed s ≡ trimmed (take (length s) s)
+pub trim-start : (s : List ℕ) → trimmedLength s ≡ trimmedLength (take (length s) s)
 trim-start s = rw take-length
 
-module _ (s : List ℕ) (n : ℕ) (e : trimmed s ≡ trimmed (take n s)) where
+module _ (s : List ℕ) (n : ℕ) (e : trimmedLength s ≡ trimmedLength (take n s)) where
   last : 0 < n → n ≤ length s → take n s ≡ take (n - 1) s ++ (getD s (n - 1) 0 ∷ [])
   last h k = let j : n ≡ suc (n - 1) = omega arith in ap (λ (m : ℕ). take m s) j ∙ take-suc s (n - 1) 0 (omega arith)
 
-  pub trim-step : 0 < n → n ≤ length s → getD s (n - 1) 0 ≡ 32 → trimmed s ≡ trimmed (take (n - 1) s)
+  pub trim-step : 0 < n → n ≤ length s → getD s (n - 1) 0 ≡ 32 → trimmedLength s ≡ trimmedLength (take (n - 1) s)
   trim-step h k x = e ∙ rw (last h k, x) (trimmed-blank (take (n - 1) s))
 
-  pub trim-stop : 0 < n → n ≤ length s → (getD s (n - 1) 0 ≡ 32 → ⊥) → n ≡ trimmed s
+  pub trim-stop : 0 < n → n ≤ length s → (getD s (n - 1) 0 ≡ 32 → ⊥) → n ≡ trimmedLength s
   trim-stop h k x =
       let l : length (take (n - 1) s) ≡ n - 1 = rw length-take (omega arith) in
-      let t : trimmed s ≡ suc (length (take (n - 1) s)) = e ∙ rw (last h k) (trimmed-other (take (n - 1) s) (getD s (n - 1) 0) x) in
+      let t : trimmedLength s ≡ suc (length (take (n - 1) s)) = e ∙ rw (last h k) (trimmed-other (take (n - 1) s) (getD s (n - 1) 0) x) in
       omega arith
 
-  pub trim-end : n ≤ 0 → n ≡ trimmed s
-  unfolding trimmed
-  trim-end h = let z : n ≡ 0 = omega arith in let t : trimmed s ≡ trimmed (take 0 s) = rw z at e in omega arith
+  pub trim-end : n ≤ 0 → n ≡ trimmedLength s
+  unfolding trimmedLength
+  trim-end h = let z : n ≡ 0 = omega arith in let t : trimmedLength s ≡ trimmedLength (take 0 s) = rw z at e in omega arith
 
 -- nothing is left exactly where all is blank
-trimmed-blanks : (s : List ℕ) → blanks s ≡ eqb (trimmed s) 0
-unfolding trimmed blanks all
+trimmed-blanks : (s : List ℕ) → isBlank s ≡ eqb (trimmedLength s) 0
+unfolding trimmedLength isBlank all
 trimmed-blanks [] = refl
-trimmed-blanks (x ∷ s) = go (blanks (x ∷ s))
+trimmed-blanks (x ∷ s) = go (isBlank (x ∷ s))
   where
-    go : (b : Bool) → b ≡ eqb (cond b 0 (suc (trimmed s))) 0
+    go : (b : Bool) → b ≡ eqb (cond b 0 (suc (trimmedLength s))) 0
     go true = refl
-    go false = sym (ne-eqb (suc (trimmed s)) 0 (λ e. omega arith))
+    go false = sym (ne-eqb (suc (trimmedLength s)) 0 (λ e. omega arith))
 
-pub trimmed-none : (s : List ℕ) → trimmed s ≡ 0 → blanks s ≡ true
-trimmed-none s e = trimmed-blanks s ∙ eq-eqb (trimmed s) 0 e
+pub trimmed-none : (s : List ℕ) → trimmedLength s ≡ 0 → isBlank s ≡ true
+trimmed-none s e = trimmed-blanks s ∙ eq-eqb (trimmedLength s) 0 e
 
-pub trimmed-some : (s : List ℕ) → (trimmed s ≡ 0 → ⊥) → blanks s ≡ false
-trimmed-some s e = trimmed-blanks s ∙ ne-eqb (trimmed s) 0 e
+pub trimmed-some : (s : List ℕ) → (trimmedLength s ≡ 0 → ⊥) → isBlank s ≡ false
+trimmed-some s e = trimmed-blanks s ∙ ne-eqb (trimmedLength s) 0 e
 
 pub ruleset trim-laws = (needs, trim-start, trim-step, trim-stop, trim-end)

@@ -13,7 +13,7 @@ use Rattle.strlib.specs.Refusal.{gives}
 use Rattle.strlib.specs.declared.StrPtr.{StrPtr}
 use Rattle.cutting.proofs.Bounding.{trimmed-le}
 use Rattle.cutting.proofs.Making.{relative-is, counted-in, between-in, CutPassed, cut-passed}
-use Rattle.cutting.specs.Cutting.{trimmed, second, inBounds, cutOf, cutRefusal, cutRule}
+use Rattle.cutting.specs.Cutting.{trimmedLength, second, inBounds, cutOf, cutRefusal, cutRule}
 use Rattle.cutting.specs.declared.Cut.{Cut}
 use Rattle.cutting.specs.declared.Cut.the-variants.{Relative, Counted, Between, Trimmed}
 
@@ -33,7 +33,7 @@ part-good s p (Between pos1 pos2) g b =
 part-good s p Trimmed g b =
     let h = trimmed-le (textOf s p) in
     let l = good-is (length s) p g .0 in
-    good-sized (length s) p (trimmed (textOf s p)) g (omega (arith, text-length s p g))
+    good-sized (length s) p (trimmedLength (textOf s p)) g (omega (arith, text-length s p g))
 
 pub cut-good : (s : List ℕ) (p : StrPtr) (c : Cut) (q : StrPtr) → cutRule s p c ≡ gives q → goodIn (length s) q ≡ true
 unfolding cutRule

@@ -14,7 +14,7 @@ use Rattle.strlib.specs.Pointer.{sized, partOf, storeFits, goodIn, textOf, read
 use Rattle.strlib.specs.Refusal.{refused, gives, also}
 use Rattle.strlib.specs.declared.StrPtr.{StrPtr}
 use Rattle.cutting.proofs.Bounding.{counted-is, between-is}
-use Rattle.cutting.specs.Cutting.{trimmed, second, inBounds, cutOf, cutReads, cutChecks, cutRefusal, cutRule}
+use Rattle.cutting.specs.Cutting.{trimmedLength, second, inBounds, cutOf, cutReads, cutChecks, cutRefusal, cutRule}
 use Rattle.cutting.specs.Inner.{Cuttable, Inside}
 use Rattle.cutting.specs.declared.Cut.{Cut}
 use Rattle.cutting.specs.declared.Cut.the-variants.{Relative, Counted, Between, Trimmed}
@@ -87,7 +87,7 @@ module _ (s : List ℕ) (p : StrPtr) (c : Cut) (r : StrPtr) where
   unfolding cutOf
   made-between pos1 pos2 q e f h = rw (e, ← f) h
 
-  pub made-trimmed : (t : List ℕ) (n : ℕ) → c ≡ Trimmed → t ≡ textOf s p → n ≡ trimmed t → r ≡ sized p n → r ≡ cutOf s p c
+  pub made-trimmed : (t : List ℕ) (n : ℕ) → c ≡ Trimmed → t ≡ textOf s p → n ≡ trimmedLength t → r ≡ sized p n → r ≡ cutOf s p c
   unfolding cutOf
   made-trimmed t n e f g h = rw (e, ← f, ← g) h
 

@@ -15,11 +15,12 @@ use Rattle.strlib.specs.Pointer.{pointer, sized, partOf, goodIn, textOf}
 use Rattle.strlib.specs.declared.StrPtr.{StrPtr}
 use Rattle.cutting.proofs.Bounding.{trimmed-none, trimmed-some}
 use Rattle.cutting.proofs.Goodness.{part-good}
-use Rattle.cutting.specs.Cutting.{trimmed, countedIn, inBounds, cutOf}
+use Rattle.cutting.specs.Cutting.{isBlank, trimmedLength, countedIn, inBounds, cutOf}
 use Rattle.cutting.specs.Inner.{Cuttable}
-use Rattle.cutting.specs.Part.{IsPart, whole, sliceCut, shown}
+use Rattle.cutting.specs.Part.{IsPart, whole, sliceCut, shown, labelPlace}
 use Rattle.cutting.specs.declared.Cut.{Cut}
 use Rattle.cutting.specs.declared.Cut.the-variants.{Counted, Trimmed}
+use Rattle.cutting.specs.declared.parts.DeskLabel.{DeskLabel}
 
 whole-good : (xs : List ℕ) → goodIn (length xs) (whole xs) ≡ true
 unfolding whole pointer
@@ -73,29 +74,67 @@ whole-text : (xs : List ℕ) → textOf xs (whole xs) ≡ xs
 unfolding textOf whole pointer
 whole-text xs = take-length xs
 
-pub trim-length : (xs : List ℕ) → length (textOf xs (sliceCut xs Trimmed)) ≡ trimmed xs
+pub trim-length : (xs : List ℕ) → length (textOf xs (sliceCut xs Trimmed)) ≡ trimmedLength xs
 unfolding sliceCut inBounds cutOf sized
-trim-length xs = text-length xs (cutOf xs (whole xs) Trimmed) (part-good xs (whole xs) Trimmed (whole-good xs) refl) ∙ ap trimmed (whole-text xs)
+trim-length xs = text-length xs (cutOf xs (whole xs) Trimmed) (part-good xs (whole xs) Trimmed (whole-good xs) refl) ∙ ap trimmedLength (whole-text xs)
 
 -- the length of a trimmed part
-pub part-trimmed : (q s : RefT (List ℕ)) → IsPart q s (sliceCut (now s) Trimmed) → length (now q) ≡ trimmed (now s)
+pub part-trimmed : (q s : RefT (List ℕ)) → IsPart q s (sliceCut (now s) Trimmed) → length (now q) ≡ trimmedLength (now s)
 part-trimmed q s p = ap length (p .bytes) ∙ trim-length (now s)
 
--- the label's own length tells whether the production name is blank
-module _ (q production house : RefT (List ℕ)) (p : IsPart q production (sliceCut (now production) Trimmed)) where
-  left : length (now q) ≡ trimmed (now production)
-  left = part-trimmed q production p
+-- a trimmed place's own length
+place-trimmed : (xs : List ℕ) → sliceCut xs Trimmed .length ≡ trimmedLength xs
+unfolding sliceCut inBounds cutOf sized
+place-trimmed xs = ap trimmedLength (whole-text xs)
 
-  pub label-house : (r : RefT (List ℕ)) → length (now q) ≡ 0 → IsPart r house (sliceCut (now house) Trimmed)
-      → IsPart r (shown production house) (sliceCut (now (shown production house)) Trimmed)
-  unfolding shown
-  label-house r z h = rw (trimmed-none (now production) (sym left ∙ z)) h
+-- it tells whether the production name is blank
+module _ (production house : List ℕ) (p : StrPtr) (e : p ≡ sliceCut production Trimmed) where
+  left : p .length ≡ trimmedLength production
+  left = ap (λ (q : StrPtr). q .length) e ∙ place-trimmed production
 
-  pub label-production : (length (now q) ≡ 0 → ⊥) → IsPart q (shown production house) (sliceCut (now (shown production house)) Trimmed)
-  unfolding shown
-  label-production z = rw (trimmed-some (now production) (λ (n : trimmed (now production) ≡ 0). z (left ∙ n))) p
+  pub place-house : (q : StrPtr) → p .length ≡ 0 → q ≡ sliceCut house Trimmed → record { house = true; place = q } ≡ labelPlace production house
+  unfolding labelPlace
+  place-house q z h = rw (trimmed-none production (sym left ∙ z), h)
 
-pub ruleset label-laws = (needs, label-house, label-production)
+  pub place-production : (p .length ≡ 0 → ⊥) → record { house = false; place = p } ≡ labelPlace production house
+  unfolding labelPlace
+  place-production z = rw (trimmed-some production (λ (n : trimmedLength production ≡ 0). z (left ∙ n)), e)
+
+-- the part at the label's place
+module _ (production house : RefT (List ℕ)) (l : DeskLabel) (e : l ≡ labelPlace (now production) (now house)) where
+  module _ (h : l .house ≡ true) where
+    in-house : isBlank (now production) ≡ true
+    unfolding labelPlace
+    in-house = sym (ap (λ (x : DeskLabel). x .house) e) ∙ h
+
+    house-place : l .place ≡ sliceCut (now house) Trimmed
+    unfolding labelPlace
+    house-place = ap (λ (x : DeskLabel). x .place) e ∙ rw in-house
+
+    pub house-within : l .place .start + l .place .length ≤ length (now house)
+    house-within = slice-within (now house) Trimmed (l .place) house-place
+
+    pub label-house : (r : RefT (List ℕ)) → IsPart r house (l .place) → IsPart r (shown production house) (sliceCut (now (shown production house)) Trimmed)
+    unfolding shown
+    label-house r i = rw (in-house, ← house-place) i
+
+  module _ (h : l .house ≡ false) where
+    in-production : isBlank (now production) ≡ false
+    unfolding labelPlace
+    in-production = sym (ap (λ (x : DeskLabel). x .house) e) ∙ h
+
+    production-place : l .place ≡ sliceCut (now production) Trimmed
+    unfolding labelPlace
+    production-place = ap (λ (x : DeskLabel). x .place) e ∙ rw in-production
+
+    pub production-within : l .place .start + l .place .length ≤ length (now production)
+    production-within = slice-within (now production) Trimmed (l .place) production-place
+
+    pub label-production : (r : RefT (List ℕ)) → IsPart r production (l .place) → IsPart r (shown production house) (sliceCut (now (shown production house)) Trimmed)
+    unfolding shown
+    label-production r i = rw (in-production, ← production-place) i
+
+pub ruleset label-laws = (needs, place-house, place-production, house-within, label-house, production-within, label-production)
 
 -- ---- a counted cut by its index
 

@@ -11,13 +11,13 @@ use Rattle.cutting.specs.declared.Cut.{Cut}
 use Rattle.cutting.specs.declared.Cut.the-variants.{Relative, Counted, Between, Trimmed}
 
 -- a blank is 32
-unfoldable pub blanks : List ℕ → Bool
-blanks xs = all (λ x. eqb x 32) xs
+unfoldable pub isBlank : List ℕ → Bool
+isBlank xs = all (λ x. eqb x 32) xs
 
 -- the length that is left once trailing blanks are dropped
-unfoldable pub trimmed : List ℕ → ℕ
-trimmed [] = 0
-trimmed (x ∷ xs) = cond (blanks (x ∷ xs)) 0 (suc (trimmed xs))
+unfoldable pub trimmedLength : List ℕ → ℕ
+trimmedLength [] = 0
+trimmedLength (x ∷ xs) = cond (isBlank (x ∷ xs)) 0 (suc (trimmedLength xs))
 
 -- pos2 = 0 means length + 1
 unfoldable pub second : ℕ → ℕ → ℕ
@@ -42,7 +42,7 @@ unfoldable pub cutOf : List ℕ → StrPtr → Cut → StrPtr
 cutOf s p (Relative a) = partOf p a (p .length - a) (p .maximum - a)
 cutOf s p (Counted at n) = partOf p (at - 1) n (p .maximum + 1 - at)
 cutOf s p (Between pos1 pos2) = partOf p (pos1 - 1) (second (p .length) pos2 - pos1) (p .length + 1 - pos1)
-cutOf s p Trimmed = sized p (trimmed (textOf s p))
+cutOf s p Trimmed = sized p (trimmedLength (textOf s p))
 
 -- only trimming reads the string
 unfoldable pub cutReads : List ℕ → StrPtr → Cut → Bool

@@ -6,7 +6,7 @@ use Rattle.strlib.specs.Quoted.{bytes}
 use Rattle.strlib.specs.Pointer.{pointer, sized, partOf, storeFits, goodIn, textOf, all, characters, readable}
 use Rattle.strlib.specs.Refusal.{refused, gives, outcome}
 use Rattle.strlib.specs.declared.StrPtr.{StrPtr}
-use Rattle.cutting.specs.Cutting.{blanks, trimmed, second, countedIn, betweenIn, inBounds, cutOf, cutReads, cutRefusal, cutRule}
+use Rattle.cutting.specs.Cutting.{isBlank, trimmedLength, second, countedIn, betweenIn, inBounds, cutOf, cutReads, cutRefusal, cutRule}
 use Rattle.cutting.specs.Part.{whole, sliceCut}
 use Rattle.cutting.specs.declared.Cut.the-variants.{Relative, Counted, Between, Trimmed}
 
@@ -35,7 +35,7 @@ pub record Examples : Type 0 where
   pub between-end : cutRule store label (Between 9 9) ≡ gives (pointer 8 0 0)
   pub between-past : cutRule store label (Between 5 10) ≡ refused 4
   pub between-turned : cutRule store label (Between 5 4) ≡ refused 4
-  pub trimmed : cutRule store label Trimmed ≡ gives (pointer 0 6 9)
+  pub trimmedLength : cutRule store label Trimmed ≡ gives (pointer 0 6 9)
   -- trimming reads the string, the other cuts do not
   pub trim-reads : cutRule store (pointer 0 9 9) Trimmed ≡ refused 2
   pub cut-reads-not : cutRule store (pointer 0 9 9) (Relative 8) ≡ gives (pointer 8 1 1)
@@ -48,7 +48,7 @@ pub record Examples : Type 0 where
 
 pub examples : Examples
 unfolding
-    pointer sized partOf storeFits goodIn textOf all characters readable outcome blanks trimmed second countedIn betweenIn inBounds cutOf cutReads cutRefusal
+    pointer sized partOf storeFits goodIn textOf all characters readable outcome isBlank trimmedLength second countedIn betweenIn inBounds cutOf cutReads cutRefusal
     cutRule whole sliceCut
 examples =
     record {
@@ -64,7 +64,7 @@ examples =
       between-end = refl;
       between-past = refl;
       between-turned = refl;
-      trimmed = refl;
+      trimmedLength = refl;
       trim-reads = refl;
       cut-reads-not = refl;
       bad-pointer = refl;

@@ -7,8 +7,10 @@ use lib.ListN.{length}
 use denote.Ref.{RefT, now, ptr}
 use Rattle.strlib.specs.Pointer.{pointer, textOf}
 use Rattle.strlib.specs.declared.StrPtr.{StrPtr}
-use Rattle.cutting.specs.Cutting.{blanks, inBounds, cutOf}
+use Rattle.cutting.specs.Cutting.{isBlank, inBounds, cutOf}
 use Rattle.cutting.specs.declared.Cut.{Cut}
+use Rattle.cutting.specs.declared.Cut.the-variants.{Trimmed}
+use Rattle.cutting.specs.declared.parts.DeskLabel.{DeskLabel}
 
 -- r is the part of s itself that p names: the same memory from p's start on, and p's characters
 pub record IsPart (r s : RefT (List ℕ)) (p : StrPtr) : Type 0 where
@@ -26,4 +28,9 @@ sliceCut xs c = cond (inBounds (whole xs) c) (cutOf xs (whole xs) c) (pointer 0 
 
 -- the name that the desk shows: the production name, or the house name where that is all blanks or empty
 unfoldable pub shown : RefT (List ℕ) → RefT (List ℕ) → RefT (List ℕ)
-shown production house = cond (blanks (now production)) house production
+shown production house = cond (isBlank (now production)) house production
+
+-- where its label lies: in the house name or in the production name, and where in it
+unfoldable pub labelPlace : List ℕ → List ℕ → DeskLabel
+labelPlace production house =
+    record { house = isBlank production; place = sliceCut (cond (isBlank production) house production) Trimmed }

@@ -2,7 +2,7 @@
 use super::Cut;
 use strlib::StrPtr;
 ghost use mathlib.Core.Path.{_≡_};
-ghost use Rattle.cutting.specs.Cutting.{countedIn, betweenIn, inBounds, trimmed};
+ghost use Rattle.cutting.specs.Cutting.{countedIn, betweenIn, inBounds, trimmedLength};
 
 fn counted_in(maximum: usize, position: usize, count: usize) -> bool
     ensures { λ r. ⌜ r ≡ countedIn maximum position count ⌝ }
@@ -16,19 +16,19 @@ fn counted_in(maximum: usize, position: usize, count: usize) -> bool
     count <= maximum - (position - 1)
 }
 
-fn between_in(length: usize, pos1: usize, pos2: usize) -> bool
-    ensures { λ r. ⌜ r ≡ betweenIn length pos1 pos2 ⌝ }
+fn between_in(n: usize, pos1: usize, pos2: usize) -> bool
+    ensures { λ r. ⌜ r ≡ betweenIn n pos1 pos2 ⌝ }
 {
     if pos1 == 0 {
         return false;
     }
     if pos2 == 0 {
-        return pos1 - 1 <= length;
+        return pos1 - 1 <= n;
     }
     if pos2 < pos1 {
         return false;
     }
-    pos2 - 1 <= length
+    pos2 - 1 <= n
 }
 
 pub fn in_bounds(string: StrPtr, cut: Cut) -> bool
@@ -43,7 +43,7 @@ pub fn in_bounds(string: StrPtr, cut: Cut) -> bool
 }
 
 pub fn trimmed_length(bytes: &[u8]) -> usize
-    ensures { λ r. ⌜ r ≡ trimmed (now (bytes .entry)) ⌝ }
+    ensures { λ r. ⌜ r ≡ trimmedLength (now (bytes .entry)) ⌝ }
 {
     let mut n = bytes.len();
     while 0 < n {

@@ -9,9 +9,11 @@ ghost use Rattle.strlib.specs.Refusal.{also, answered};
 ghost use Rattle.cutting.specs.Cutting.{second, cutReads, cutOf, cutRefusal, cutRule};
 ghost use Rattle.cutting.specs.Inner.{Cuttable, Inside};
 ghost use Rattle.cutting.specs.declared.Cut.the-variants.{Relative, Counted, Between, Trimmed};
+pub use parts::DeskLabel;
 pub use parts::between_part;
 pub use parts::counted_part;
 pub use parts::desk_label;
+pub use parts::label_place;
 pub use parts::place_of;
 pub use parts::relative_part;
 pub use parts::trimmed_part;
@@ -55,18 +57,18 @@ pub fn trim(store: &[u8], string: StrPtr) -> StrAnswer
 }
 
 // A part of a string, from `skip` behind its start.
-fn part_of(string: StrPtr, skip: usize, length: usize, maximum: usize) -> StrPtr
+fn part_of(string: StrPtr, skip: usize, n: usize, maximum: usize) -> StrPtr
     requires { ⌜ Inside string skip ⌝ }
-    ensures { λ r. ⌜ r ≡ partOf string skip length maximum ⌝ }
+    ensures { λ r. ⌜ r ≡ partOf string skip n maximum ⌝ }
 {
-    string.part(string.start + skip, length, maximum)
+    string.part(string.start + skip, n, maximum)
 }
 
-fn second_position(length: usize, pos2: usize) -> usize
-    requires { ⌜ length < 9223372036854775808 ⌝ }
-    ensures { λ r. ⌜ r ≡ second length pos2 ⌝ }
+fn second_position(n: usize, pos2: usize) -> usize
+    requires { ⌜ n < 9223372036854775808 ⌝ }
+    ensures { λ r. ⌜ r ≡ second n pos2 ⌝ }
 {
-    if pos2 == 0 { length + 1 } else { pos2 }
+    if pos2 == 0 { n + 1 } else { pos2 }
 }
 
 // The string that is cut out.

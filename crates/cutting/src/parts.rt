@@ -6,7 +6,7 @@ ghost use mathlib.Core.Path.{_≡_};
 ghost use Prim.Native.Nat.{_+_, _≤_};
 ghost use lib.ListN.{length};
 ghost use Rattle.strlib.specs.Pointer.{pointer};
-ghost use Rattle.cutting.specs.Part.{IsPart, sliceCut, shown};
+ghost use Rattle.cutting.specs.Part.{IsPart, sliceCut, shown, labelPlace};
 ghost use Rattle.cutting.specs.declared.Cut.the-variants.{Relative, Counted, Between, Trimmed};
 
 fn part(bytes: &[u8], p: StrPtr) -> &[u8]
@@ -59,13 +59,33 @@ pub fn trimmed_part(bytes: &[u8]) -> &[u8]
     cut_slice(bytes, Cut::Trimmed)
 }
 
+// Where the label shown on the desk lies: in the house name, or in the production name.
+pub struct DeskLabel {
+    pub house: bool,
+    pub place: StrPtr,
+}
+
+pub fn label_place(production: &[u8], house: &[u8]) -> DeskLabel
+    ensures { λ r. ⌜ r ≡ labelPlace (now (production .entry)) (now (house .entry)) ⌝ }
+{
+    let place = place_of(production, Cut::Trimmed);
+    if place.length == 0 {
+        let place = place_of(house, Cut::Trimmed);
+        return DeskLabel { house: true, place };
+    }
+    DeskLabel {
+        house: false,
+        place,
+    }
+}
+
 // The label shown on the desk: the trimmed production name, or where that is blank or empty the trimmed house name.
 pub fn desk_label<'a>(production: &'a [u8], house: &'a [u8]) -> &'a [u8]
     ensures { λ r. ⌜ IsPart r (shown (production .entry) (house .entry)) (sliceCut (now (shown (production .entry) (house .entry))) Trimmed) ⌝ }
 {
-    let label = trimmed_part(production);
-    if label.len() == 0 {
-        return trimmed_part(house);
+    let label = label_place(production, house);
+    if label.house {
+        return part(house, label.place);
     }
-    label
+    part(production, label.place)
 }

@@ -20,7 +20,7 @@ use Rattle.records.proofs.Checking.{Writable, writable}
 use Rattle.records.proofs.Limits.{in-range, earlier-none, earlier-found, earlier-zero}
 use Rattle.records.specs.Record.{sizeOf, earlier, listRefusal, newRefusal, labelBytes, fittedBytes}
 use Rattle.desk.proofs.LabelReading.{answered-good, answered-refused}
-use Rattle.desk.specs.Label.{readRule, labelCounted, addRefusal, addRule}
+use Rattle.desk.specs.Label.{readLabelsRule, labelCounted, addRefusal, addRule}
 use Rattle.desk.specs.declared.label.read.LabelCount.{LabelCount}
 use Rattle.desk.specs.declared.label.read.LabelCount.the-variants.{Records, Refused as Uncounted}
 
@@ -34,7 +34,7 @@ module _ (b : List ℕ) (n kind number : ℕ) (name : List ℕ) where
   unfolding addRefusal
   add-long h = rw (lt-leb n (length b) h)
 
-  module _ (h : n ≤ length b) (a : LabelCount) (e : labelCounted a ≡ readRule (take n b)) where
+  module _ (h : n ≤ length b) (a : LabelCount) (e : labelCounted a ≡ readLabelsRule (take n b)) where
     pub add-list : (k : ℕ) → a ≡ Uncounted k → k ≡ addRefusal b n kind number name
     unfolding addRefusal
     add-list k q =

@@ -13,7 +13,7 @@ use Rattle.strlib.proofs.Refusing.{outcome-no, outcome-yes, outcome-gave}
 use Rattle.strlib.specs.Refusal.{Outcome, refused, gives, Sought, nowhere, at, outcome}
 use Rattle.cutting.proofs.Bounding.{trimmed-le}
 use Rattle.cutting.proofs.Slicing.{part-trimmed, part-counted}
-use Rattle.cutting.specs.Cutting.{trimmed}
+use Rattle.cutting.specs.Cutting.{trimmedLength}
 use Rattle.cutting.specs.Part.{IsPart, sliceCut}
 use Rattle.cutting.specs.declared.Cut.the-variants.{Counted as CountedCut, Trimmed}
 use Rattle.records.proofs.Fronts.{name-front, name-length}
@@ -23,7 +23,7 @@ use Rattle.records.proofs.Limits.{earlier-none, earlier-found, earlier-zero}
 use Rattle.records.proofs.Sizes.{size-width, place-begins}
 use Rattle.records.specs.Record.{headSize, sizeOf, kindOf, nameIn, placeOf, recordAt, records, recordOf, earlier, listRefusal, keyRefusal}
 use Rattle.desk.proofs.LabelReading.{answered-good, answered-refused}
-use Rattle.desk.specs.Label.{readRule, labelCounted, nameOf, findRule, labelPlaced, namePart}
+use Rattle.desk.specs.Label.{readLabelsRule, labelCounted, nameOf, findLabelRule, labelPlaced, namePart}
 use Rattle.desk.specs.LabelInner.{Counted}
 use Rattle.desk.specs.declared.label.read.LabelCount.{LabelCount}
 use Rattle.desk.specs.declared.label.read.LabelCount.the-variants.{Records, Refused as Uncounted}
@@ -49,10 +49,10 @@ module _ (l : List ℕ) (k : ℕ) where
     unfolding nameOf
     name-placed t q c h e i =
         let p : length l - length x ≡ placeOf l (k - 1) = rw ex (record-place l (k - 1) (omega (arith, c .most, h))) in
-        let n : length (now q) ≡ trimmed (nameIn (recordAt l (k - 1))) = part-trimmed q t i ∙ ap trimmed (e ∙ ap nameIn ex) in
+        let n : length (now q) ≡ trimmedLength (nameIn (recordAt l (k - 1))) = part-trimmed q t i ∙ ap trimmedLength (e ∙ ap nameIn ex) in
         rw (p, n) (go k h)
       where
-        go : (k : ℕ) → (k ≡ 0 → ⊥) → gives (at (placeOf l (k - 1) + headSize, trimmed (nameIn (recordAt l (k - 1))))) ≡ gives (nameOf l k)
+        go : (k : ℕ) → (k ≡ 0 → ⊥) → gives (at (placeOf l (k - 1) + headSize, trimmedLength (nameIn (recordAt l (k - 1))))) ≡ gives (nameOf l k)
         go zero h = absurd (h refl)
         go (suc k) h = let z : suc k - 1 ≡ k = omega arith in rw z
 
@@ -63,9 +63,9 @@ pub ruleset place-laws = (needs, name-missing, rest-within, place-fits, name-pla
 pub found-counted : (l : List ℕ) (kind number k : ℕ) → k ≡ recordOf l kind number (records l) → Counted l k
 found-counted l kind number k e = record { most = rw e (record-of-le l kind number (records l)) }
 
-module _ (l : List ℕ) (kind number : ℕ) (a : LabelCount) (c : labelCounted a ≡ readRule l) where
-  pub find-list : (k : ℕ) → a ≡ Uncounted k → refused k ≡ findRule l kind number
-  unfolding findRule
+module _ (l : List ℕ) (kind number : ℕ) (a : LabelCount) (c : labelCounted a ≡ readLabelsRule l) where
+  pub find-list : (k : ℕ) → a ≡ Uncounted k → refused k ≡ findLabelRule l kind number
+  unfolding findLabelRule
   find-list k q =
       let n = answered-refused l a c k q in
       let f : k ≡ earlier (listRefusal l) (keyRefusal kind number) = n .0 ∙ sym (earlier-found (listRefusal l) (keyRefusal kind number) (rw (n .0) at (n .1))) in
@@ -75,12 +75,12 @@ module _ (l : List ℕ) (kind number : ℕ) (a : LabelCount) (c : labelCounted a
     later : j ≡ earlier (listRefusal l) (keyRefusal kind number)
     later = e ∙ sym (earlier-zero (listRefusal l) (keyRefusal kind number) (answered-good l a c n q))
 
-    pub find-key : (j ≡ 0 → ⊥) → refused j ≡ findRule l kind number
-    unfolding findRule
+    pub find-key : (j ≡ 0 → ⊥) → refused j ≡ findLabelRule l kind number
+    unfolding findLabelRule
     find-key h = outcome-no j _ later (nameOf l (recordOf l kind number (records l))) h
 
-    pub find-name : (k : ℕ) (r : Outcome (Sought (ℕ × ℕ))) → j ≡ 0 → k ≡ recordOf l kind number (records l) → r ≡ gives (nameOf l k) → r ≡ findRule l kind number
-    unfolding findRule
+    pub find-name : (k : ℕ) (r : Outcome (Sought (ℕ × ℕ))) → j ≡ 0 → k ≡ recordOf l kind number (records l) → r ≡ gives (nameOf l k) → r ≡ findLabelRule l kind number
+    unfolding findLabelRule
     find-name k r z f x = x ∙ outcome-yes j _ later (nameOf l k) _ z (ap (nameOf l) f)
 
 pub ruleset find-laws = (needs, found-counted, find-list, find-key, find-name)
@@ -88,13 +88,13 @@ pub ruleset find-laws = (needs, found-counted, find-list, find-key, find-name)
 -- ---- in a good list
 
 pub find-good : (l : List ℕ) (kind number : ℕ) → listRefusal l ≡ 0
-    → findRule l kind number ≡ outcome (keyRefusal kind number) (nameOf l (recordOf l kind number (records l)))
-unfolding findRule
+    → findLabelRule l kind number ≡ outcome (keyRefusal kind number) (nameOf l (recordOf l kind number (records l)))
+unfolding findLabelRule
 find-good l kind number g = rw (earlier-zero (listRefusal l) (keyRefusal kind number) g)
 
 module _ (l : List ℕ) (g : listRefusal l ≡ 0) where
   -- a name lies in its record, and so in the list
-  pub name-within : (k : ℕ) → k < records l → placeOf l k + headSize + trimmed (nameIn (recordAt l k)) ≤ length l
+  pub name-within : (k : ℕ) → k < records l → placeOf l k + headSize + trimmedLength (nameIn (recordAt l k)) ≤ length l
   name-within k h =
       let x : List ℕ = recordAt l k in
       let w : sizeOf (kindOf x) ≤ length x = good-passes l g k h .body .whole in
@@ -104,7 +104,7 @@ module _ (l : List ℕ) (g : listRefusal l ≡ 0) where
   unfolding nameOf
   found-within zero place n h e = let z : _≡_ {A = ℕ} 0 1 = cc in absurd (omega arith)
   found-within (suc k) place n h e =
-      let q : _≡_ {A = ℕ × ℕ} (placeOf l k + headSize, trimmed (nameIn (recordAt l k))) (place, n) = cc in
+      let q : _≡_ {A = ℕ × ℕ} (placeOf l k + headSize, trimmedLength (nameIn (recordAt l k))) (place, n) = cc in
       omega (arith, ap (λ (z : ℕ × ℕ). z .0) q, ap (λ (z : ℕ × ℕ). z .1) q, name-within k (omega arith))
 
   -- what stands behind the list does not move a found name
@@ -116,28 +116,28 @@ module _ (l : List ℕ) (g : listRefusal l ≡ 0) where
 
 -- ---- the read-only form
 
-pub place-within : (l : List ℕ) (kind number : ℕ) (q : LabelPlace) → labelPlaced q ≡ findRule l kind number → (place n : ℕ) → q ≡ Found place n
+pub place-within : (l : List ℕ) (kind number : ℕ) (q : LabelPlace) → labelPlaced q ≡ findLabelRule l kind number → (place n : ℕ) → q ≡ Found place n
     → place + n ≤ length l
-unfolding findRule
+unfolding findLabelRule
 place-within l kind number q e place n f =
     let g = outcome-gave (earlier (listRefusal l) (keyRefusal kind number)) _ (at (place, n)) (sym e ∙ ap labelPlaced f) in
     let z = earlier-none (listRefusal l) (keyRefusal kind number) (g .0) in
     found-within l (z .0) (recordOf l kind number (records l)) place n (record-of-le l kind number (records l)) (g .1)
 
-module _ (r s : RefT (List ℕ)) (kind number : ℕ) (q : LabelPlace) (e : labelPlaced q ≡ findRule (now s) kind number) where
-  pub part-found : (place n : ℕ) → q ≡ Found place n → IsPart r s (sliceCut (now s) (CountedCut (place + 1) n)) → IsPart r s (namePart (findRule (now s) kind number))
+module _ (r s : RefT (List ℕ)) (kind number : ℕ) (q : LabelPlace) (e : labelPlaced q ≡ findLabelRule (now s) kind number) where
+  pub part-found : (place n : ℕ) → q ≡ Found place n → IsPart r s (sliceCut (now s) (CountedCut (place + 1) n)) → IsPart r s (namePart (findLabelRule (now s) kind number))
   unfolding namePart
   part-found place n f i = rw (← e, f) (part-counted r s place n (place-within (now s) kind number q e place n f) i)
 
-  pub part-missing : q ≡ Missing → IsPart r s (sliceCut (now s) (CountedCut 1 0)) → IsPart r s (namePart (findRule (now s) kind number))
+  pub part-missing : q ≡ Missing → IsPart r s (sliceCut (now s) (CountedCut 1 0)) → IsPart r s (namePart (findLabelRule (now s) kind number))
   unfolding namePart
   part-missing f i = rw (← e, f) (part-counted r s 0 0 (omega arith) i)
 
-  pub part-refused : (k : ℕ) → q ≡ Unplaced k → IsPart r s (sliceCut (now s) (CountedCut 1 0)) → IsPart r s (namePart (findRule (now s) kind number))
+  pub part-refused : (k : ℕ) → q ≡ Unplaced k → IsPart r s (sliceCut (now s) (CountedCut 1 0)) → IsPart r s (namePart (findLabelRule (now s) kind number))
   unfolding namePart
   part-refused k f i = rw (← e, f) (part-counted r s 0 0 (omega arith) i)
 
-pub part-fits : (l : List ℕ) (kind number : ℕ) (q : LabelPlace) → labelPlaced q ≡ findRule l kind number → (place n : ℕ) → q ≡ Found place n
+pub part-fits : (l : List ℕ) (kind number : ℕ) (q : LabelPlace) → labelPlaced q ≡ findLabelRule l kind number → (place n : ℕ) → q ≡ Found place n
     → length l * 1 < 2 ^ 63 → Fits w64 (place + 1)
 part-fits l kind number q e place n f h = record { fits = omega (arith, place-within l kind number q e place n f) }
 

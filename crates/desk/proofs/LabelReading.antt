@@ -16,8 +16,8 @@ use Rattle.records.proofs.Fronts.{body-passes, behind-body, behind-fresh}
 use Rattle.records.proofs.Limits.{in-range}
 use Rattle.records.proofs.Reading.{Reached, reached-start, reached-next, reached-refusal, reached-count, reached-good, record-yes, record-no, fresh-next, fresh-none}
 use Rattle.records.proofs.Sizes.{size-least}
-use Rattle.records.specs.Record.{sizeOf, isNumber, kindOf, numberOf, records, isRecord, isFresh, bodyRefusal, behindRefusal, listRefusal}
-use Rattle.desk.specs.Label.{labelCounted, readRule}
+use Rattle.records.specs.Record.{sizeOf, isNumberOf, kindOf, numberOf, records, isRecord, isFresh, bodyRefusal, behindRefusal, listRefusal}
+use Rattle.desk.specs.Label.{labelCounted, readLabelsRule}
 use Rattle.desk.specs.LabelInner.{Markable, markOf}
 use Rattle.desk.specs.declared.label.read.LabelCount.{LabelCount}
 use Rattle.desk.specs.declared.label.read.LabelCount.the-variants.{Records, Refused as Uncounted}
@@ -42,13 +42,13 @@ mark-own : (kind number k m : ℕ) → Markable kind number → Markable k m →
 unfolding markOf
 mark-own kind number k m a b e = (omega (arith, a .numbers, b .numbers), omega (arith, a .numbers, b .numbers))
 
-markable : (kind number : ℕ) → isNumber kind number ≡ true → Markable kind number
+markable : (kind number : ℕ) → isNumberOf kind number ≡ true → Markable kind number
 markable kind number e = let g = in-range kind number e in record { kinds = g .0; numbers = g .1 }
 
 -- of the kinds and numbers, those of the records in `front` are marked
 pub record Marked (met : List Bool) (front : List ℕ) : Type 0 where
   pub size : length met ≡ 387
-  pub marks : (kind number : ℕ) → isNumber kind number ≡ true → getD met (markOf kind number) false ≡ not (isFresh front kind number)
+  pub marks : (kind number : ℕ) → isNumberOf kind number ≡ true → getD met (markOf kind number) false ≡ not (isFresh front kind number)
 
 pub none-marked : (l : List ℕ) → Marked (replicate 387 false) (take 0 l)
 none-marked l =
@@ -60,15 +60,15 @@ none-marked l =
 -- ---- the loop
 
 module _ (l : List ℕ) (n place : ℕ) (r : Reached l n place) (x : List ℕ) (ex : x ≡ drop place l) (k : ℕ) (ek : k ≡ bodyRefusal x) where
-  stop : place < length l → (m : ℕ) → m ≡ behindRefusal (take place l) x → (m ≡ 0 → ⊥) → refused m ≡ readRule l
-  unfolding readRule
+  stop : place < length l → (m : ℕ) → m ≡ behindRefusal (take place l) x → (m ≡ 0 → ⊥) → refused m ≡ readLabelsRule l
+  unfolding readLabelsRule
   stop h m e f = outcome-no m (listRefusal l) (reached-refusal l n place r h m (rw (← ex) e) f) (records l) f
 
-  pub body-faulty : place < length l → (k ≡ 0 → ⊥) → refused k ≡ readRule l
+  pub body-faulty : place < length l → (k ≡ 0 → ⊥) → refused k ≡ readLabelsRule l
   body-faulty h f = stop h k (behind-body (take place l) x k ek f) f
 
   module _ (z : k ≡ 0) (kind number : ℕ) (ea : kind ≡ kindOf x) (eb : number ≡ numberOf x) where
-    numbered : isNumber kind number ≡ true
+    numbered : isNumberOf kind number ≡ true
     numbered = rw (ea, eb) (body-passes x (sym ek ∙ z) .number)
 
     pub body-markable : Markable kind number
@@ -86,7 +86,7 @@ module _ (l : List ℕ) (n place : ℕ) (r : Reached l n place) (x : List ℕ) (
         is : not (isFresh (take place l) kind number) ≡ getD met m false
         is = rw em (sym (g .marks kind number numbered))
 
-        pub mark-faulty : place < length l → getD met m false ≡ true → refused 11 ≡ readRule l
+        pub mark-faulty : place < length l → getD met m false ≡ true → refused 11 ≡ readLabelsRule l
         mark-faulty h t =
             stop h 11 (sym (left ∙ ap (λ (b : Bool). cond b 0 11) (turned (isFresh (take place l) kind number) (is ∙ t)))) (λ (y : _≡_ {A = ℕ} 11 0). omega arith)
           where
@@ -123,7 +123,7 @@ module _ (l : List ℕ) (n place : ℕ) (r : Reached l n place) (x : List ℕ) (
                     let i : markOf kind number < length met = rw (g .size) (mark-in kind number body-markable) in
                     rw (e, ← (y .0), ← (y .1), ← ea, ← eb) (getD-set-same met (markOf kind number) true false i)
 
-                other : (k′ n′ : ℕ) → isNumber k′ n′ ≡ true → isRecord x k′ n′ ≡ false
+                other : (k′ n′ : ℕ) → isNumberOf k′ n′ ≡ true → isRecord x k′ n′ ≡ false
                     → getD (set met (markOf kind number) true) (markOf k′ n′) false ≡ not (not (isRecord x k′ n′) && isFresh (take place l) k′ n′)
                 other k′ n′ h e =
                     let u : markOf k′ n′ ≡ markOf kind number → ⊥ =
@@ -139,8 +139,8 @@ module _ (l : List ℕ) (n place : ℕ) (r : Reached l n place) (x : List ℕ) (
             pub count-fits : length l * 1 < 2 ^ 63 → Fits w64 (n + 1)
             count-fits h = record { fits = omega (arith, r .within, r .small) }
 
-pub read-good : (l : List ℕ) (n place : ℕ) → Reached l n place → length l ≤ place → gives n ≡ readRule l
-unfolding readRule
+pub read-good : (l : List ℕ) (n place : ℕ) → Reached l n place → length l ≤ place → gives n ≡ readLabelsRule l
+unfolding readLabelsRule
 read-good l n place r h = outcome-yes 0 (listRefusal l) (reached-good l n place r h) n (records l) refl (reached-count l n place r h)
 
 pub ruleset read-laws = (
@@ -168,13 +168,13 @@ refused-some m x k f z =
     let v : _≡_ {A = ℕ} 0 1 = cc in
     omega arith
 
-module _ (l : List ℕ) (a : LabelCount) (e : labelCounted a ≡ readRule l) where
+module _ (l : List ℕ) (a : LabelCount) (e : labelCounted a ≡ readLabelsRule l) where
   pub answered-good : (n : ℕ) → a ≡ Records n → listRefusal l ≡ 0
-  unfolding readRule
+  unfolding readLabelsRule
   answered-good n q = outcome-gave (listRefusal l) (records l) n (sym e ∙ ap labelCounted q) .0
 
   pub answered-refused : (k : ℕ) → a ≡ Uncounted k → (k ≡ listRefusal l) × (k ≡ 0 → ⊥)
-  unfolding readRule
+  unfolding readLabelsRule
   answered-refused k q =
       let f : outcome (listRefusal l) (records l) ≡ refused k = sym e ∙ ap labelCounted q in
       (sym (outcome-is (listRefusal l) (records l) k f), refused-some (listRefusal l) (records l) k f)

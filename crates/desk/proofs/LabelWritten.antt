@@ -8,7 +8,7 @@ use Rattle.strlib.proofs.Refusing.{outcome-yes, ruled-gave}
 use Rattle.strlib.proofs.Storing.{put-head}
 use Rattle.strlib.specs.Refusal.{gives, at, outcome}
 use Rattle.strlib.specs.Store.{put}
-use Rattle.cutting.specs.Cutting.{trimmed}
+use Rattle.cutting.specs.Cutting.{trimmedLength}
 use Rattle.records.proofs.Adding.{added-good, added-records, added-place, added-name, added-record, added-other, added-text}
 use Rattle.records.proofs.Bytes.{label-length}
 use Rattle.records.proofs.Checking.{Writable, key-good}
@@ -17,11 +17,11 @@ use Rattle.records.proofs.Limits.{padded-trimmed}
 use Rattle.records.specs.Record.{headSize, widthOf, sizeOf, records, recordOf, listRefusal, keyRefusal, labelBytes}
 use Rattle.desk.proofs.LabelAdding.{Adding, adding}
 use Rattle.desk.proofs.LabelFinding.{find-good, name-stays}
-use Rattle.desk.specs.Label.{readRule, nameOf, findRule, addRefusal, addRule}
+use Rattle.desk.specs.Label.{readLabelsRule, nameOf, findLabelRule, addRefusal, addRule}
 use Rattle.desk.specs.LabelWritten.{Written}
 
-pub read-good : (l : List ℕ) → listRefusal l ≡ 0 → readRule l ≡ gives (records l)
-unfolding readRule
+pub read-good : (l : List ℕ) → listRefusal l ≡ 0 → readLabelsRule l ≡ gives (records l)
+unfolding readLabelsRule
 read-good l g = sym (outcome-yes 0 (listRefusal l) (sym g) (records l) (records l) refl refl)
 
 module _ (l : List ℕ) (room kind number : ℕ) (name : List ℕ) (w : Writable l room kind number name) (g : listRefusal l ≡ 0) where
@@ -31,17 +31,17 @@ module _ (l : List ℕ) (room kind number : ℕ) (name : List ℕ) (w : Writable
   good : listRefusal (l ++ rec) ≡ 0
   good = added-good l room kind number name w g
 
-  read-is : readRule (l ++ rec) ≡ gives (suc (records l))
+  read-is : readLabelsRule (l ++ rec) ≡ gives (suc (records l))
   read-is = read-good (l ++ rec) good ∙ ap gives (added-records l room kind number name w g)
 
-  find-is : findRule (l ++ rec) kind number ≡ gives (at (length l + headSize, trimmed name))
+  find-is : findLabelRule (l ++ rec) kind number ≡ gives (at (length l + headSize, trimmedLength name))
   unfolding nameOf
   find-is =
       find-good (l ++ rec) kind number good
       ∙ rw (added-record l room kind number name w g, added-place l room kind number name w g, added-name l room kind number name w g, padded-trimmed (widthOf kind) name)
       (sym (outcome-yes 0 (keyRefusal kind number) (sym (key-good kind number (w .kinds) (w .numbers))) _ _ refl refl))
 
-  other-is : (k m : ℕ) → ((k ≡ kind) × (m ≡ number) → ⊥) → findRule (l ++ rec) k m ≡ findRule l k m
+  other-is : (k m : ℕ) → ((k ≡ kind) × (m ≡ number) → ⊥) → findLabelRule (l ++ rec) k m ≡ findLabelRule l k m
   other-is k m h =
       rw (find-good (l ++ rec) k m good, find-good l k m g, added-other l room kind number name w g k m h)
       (ap (outcome (keyRefusal k m)) (name-stays l g rec (recordOf l k m (records l)) (record-of-le l k m (records l))))

@@ -9,7 +9,7 @@ use Rattle.strlib.specs.Pointer.{pointer}
 use Rattle.strlib.specs.Refusal.{Outcome, refused, gives, Sought, nowhere, at, outcome, ruled}
 use Rattle.strlib.specs.Store.{put}
 use Rattle.strlib.specs.declared.StrPtr.{StrPtr}
-use Rattle.cutting.specs.Cutting.{trimmed}
+use Rattle.cutting.specs.Cutting.{trimmedLength}
 use Rattle.records.specs.Record.{headSize, sizeOf, nameIn, placeOf, recordAt, records, recordOf, earlier, listRefusal, keyRefusal, newRefusal, labelBytes}
 use Rattle.desk.specs.declared.label.read.LabelCount.{LabelCount}
 use Rattle.desk.specs.declared.label.read.LabelCount.the-variants.{Records, Refused as Uncounted}
@@ -20,8 +20,8 @@ use Rattle.desk.specs.declared.label.add.LabelAdded.the-variants.{Added,
 
 -- ---- the reader
 
-unfoldable pub readRule : List ℕ → Outcome ℕ
-readRule l = outcome (listRefusal l) (records l)
+unfoldable pub readLabelsRule : List ℕ → Outcome ℕ
+readLabelsRule l = outcome (listRefusal l) (records l)
 
 -- the paper's value for each case of the answer
 abbrev pub labelCounted : LabelCount → Outcome ℕ
@@ -33,13 +33,13 @@ labelCounted (Uncounted n) = refused n
 -- where the trimmed name of record k lies, k being counted from 1: the place, and the length
 unfoldable pub nameOf : List ℕ → ℕ → Sought (ℕ × ℕ)
 nameOf l zero = nowhere
-nameOf l (suc k) = at (placeOf l k + headSize, trimmed (nameIn (recordAt l k)))
+nameOf l (suc k) = at (placeOf l k + headSize, trimmedLength (nameIn (recordAt l k)))
 
-unfoldable pub findRule : List ℕ → ℕ → ℕ → Outcome (Sought (ℕ × ℕ))
-findRule l kind number = outcome (earlier (listRefusal l) (keyRefusal kind number)) (nameOf l (recordOf l kind number (records l)))
+unfoldable pub findLabelRule : List ℕ → ℕ → ℕ → Outcome (Sought (ℕ × ℕ))
+findLabelRule l kind number = outcome (earlier (listRefusal l) (keyRefusal kind number)) (nameOf l (recordOf l kind number (records l)))
 
 abbrev pub labelPlaced : LabelPlace → Outcome (Sought (ℕ × ℕ))
-labelPlaced (Found place length) = gives (at (place, length))
+labelPlaced (Found place n) = gives (at (place, n))
 labelPlaced Missing = gives nowhere
 labelPlaced (Unplaced n) = refused n
 

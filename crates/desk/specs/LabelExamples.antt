@@ -7,11 +7,11 @@ use Rattle.strlib.specs.Quoted.{bytes}
 use Rattle.strlib.specs.Pointer.{pointer, textOf, all}
 use Rattle.strlib.specs.Refusal.{refused, gives, nowhere, at, outcome, after, ruled}
 use Rattle.strlib.specs.Store.{put}
-use Rattle.cutting.specs.Cutting.{blanks, trimmed}
+use Rattle.cutting.specs.Cutting.{isBlank, trimmedLength}
 use Rattle.records.specs.Walk.{lastOf}
-use Rattle.records.specs.Record.{widthOf, sizeOf, limitOf, isKind, isNumber, isName, kindOf, numberOf, nameIn, placeOf, recordAt, records, isRecord, recordOf}
+use Rattle.records.specs.Record.{widthOf, sizeOf, limitOf, isKind, isNumberOf, isName, kindOf, numberOf, nameIn, placeOf, recordAt, records, isRecord, recordOf}
 use Rattle.records.specs.Record.{isFresh, bodyRefusal, behindRefusal, recordRefusal, earlier, faultIn, listRefusal, keyRefusal, newRefusal, padded, labelBytes}
-use Rattle.desk.specs.Label.{readRule, nameOf, findRule, namePart, addRefusal, addRule}
+use Rattle.desk.specs.Label.{readLabelsRule, nameOf, findLabelRule, namePart, addRefusal, addRule}
 
 -- microphone 7 and loudspeaker 31
 abbrev pub cello : List ℕ
@@ -30,46 +30,46 @@ buffer = cello ++ replicate 21 0
 
 pub record Examples : Type 0 where
   -- the reader
-  pub empty : readRule [] ≡ gives 0
-  pub two : readRule (cello ++ stalls) ≡ gives 2
+  pub empty : readLabelsRule [] ≡ gives 0
+  pub two : readLabelsRule (cello ++ stalls) ≡ gives 2
   -- kinds, and the greatest numbers of each; a number has two bytes
-  pub no-kind : readRule (cello ++ plain 3 0 1 65) ≡ refused 11
-  pub microphone-64 : readRule (plain 1 0 64 65) ≡ gives 1
-  pub microphone-65 : readRule (plain 1 0 65 65) ≡ refused 12
-  pub loudspeaker-128 : readRule (plain 2 0 128 65) ≡ gives 1
-  pub loudspeaker-129 : readRule (plain 2 0 129 65) ≡ refused 12
-  pub number-zero : readRule (plain 1 0 0 65) ≡ refused 12
-  pub number-high : readRule (plain 1 1 7 65) ≡ refused 12
+  pub no-kind : readLabelsRule (cello ++ plain 3 0 1 65) ≡ refused 11
+  pub microphone-64 : readLabelsRule (plain 1 0 64 65) ≡ gives 1
+  pub microphone-65 : readLabelsRule (plain 1 0 65 65) ≡ refused 12
+  pub loudspeaker-128 : readLabelsRule (plain 2 0 128 65) ≡ gives 1
+  pub loudspeaker-129 : readLabelsRule (plain 2 0 129 65) ≡ refused 12
+  pub number-zero : readLabelsRule (plain 1 0 0 65) ≡ refused 12
+  pub number-high : readLabelsRule (plain 1 1 7 65) ≡ refused 12
   -- the characters of a name; all blanks are a name
-  pub character-126 : readRule (plain 1 0 1 126) ≡ gives 1
-  pub character-127 : readRule (plain 1 0 1 127) ≡ refused 2
-  pub character-31 : readRule (plain 1 0 1 31) ≡ refused 2
-  pub all-blanks : readRule (plain 1 0 1 32) ≡ gives 1
+  pub character-126 : readLabelsRule (plain 1 0 1 126) ≡ gives 1
+  pub character-127 : readLabelsRule (plain 1 0 1 127) ≡ refused 2
+  pub character-31 : readLabelsRule (plain 1 0 1 31) ≡ refused 2
+  pub all-blanks : readLabelsRule (plain 1 0 1 32) ≡ gives 1
   -- one kind and number twice; the same number of another kind is none
-  pub repeated : readRule (cello ++ plain 1 0 7 65) ≡ refused 11
-  pub other-kind : readRule (cello ++ plain 2 0 7 65) ≡ gives 2
+  pub repeated : readLabelsRule (cello ++ plain 1 0 7 65) ≡ refused 11
+  pub other-kind : readLabelsRule (cello ++ plain 2 0 7 65) ≡ gives 2
   -- a short body, found before its number and its name
-  pub short : readRule (cello ++ (1 ∷ 255 ∷ 255 ∷ 200 ∷ [])) ≡ refused 11
-  pub kind-alone : readRule (1 ∷ []) ≡ refused 11
+  pub short : readLabelsRule (cello ++ (1 ∷ 255 ∷ 255 ∷ 200 ∷ [])) ≡ refused 11
+  pub kind-alone : readLabelsRule (1 ∷ []) ≡ refused 11
   -- the number before the name, the name before the repetition, and the first faulty record before all others
-  pub number-first : readRule (plain 1 0 65 127) ≡ refused 12
-  pub name-first : readRule (cello ++ plain 1 0 7 127) ≡ refused 2
-  pub first-record : readRule (plain 1 0 1 127 ++ plain 3 0 0 127) ≡ refused 2
+  pub number-first : readLabelsRule (plain 1 0 65 127) ≡ refused 12
+  pub name-first : readLabelsRule (cello ++ plain 1 0 7 127) ≡ refused 2
+  pub first-record : readLabelsRule (plain 1 0 1 127 ++ plain 3 0 0 127) ≡ refused 2
   -- the lookup, which gives the place from 0 and the trimmed length
-  pub found : findRule (cello ++ stalls) 2 31 ≡ gives (at (22, 11))
-  pub found-first : findRule (cello ++ stalls) 1 7 ≡ gives (at (3, 5))
-  pub found-blank : findRule (plain 1 0 1 32) 1 1 ≡ gives (at (3, 0))
-  pub missing : findRule (cello ++ stalls) 1 31 ≡ gives nowhere
+  pub found : findLabelRule (cello ++ stalls) 2 31 ≡ gives (at (22, 11))
+  pub found-first : findLabelRule (cello ++ stalls) 1 7 ≡ gives (at (3, 5))
+  pub found-blank : findLabelRule (plain 1 0 1 32) 1 1 ≡ gives (at (3, 0))
+  pub missing : findLabelRule (cello ++ stalls) 1 31 ≡ gives nowhere
   -- the list's refusals, then the kind, then the number
-  pub find-list : findRule (plain 1 0 1 127) 3 0 ≡ refused 2
-  pub find-kind : findRule cello 3 0 ≡ refused 11
-  pub find-number : findRule cello 1 65 ≡ refused 12
-  pub find-wide : findRule cello 2 65567 ≡ refused 12
+  pub find-list : findLabelRule (plain 1 0 1 127) 3 0 ≡ refused 2
+  pub find-kind : findLabelRule cello 3 0 ≡ refused 11
+  pub find-number : findLabelRule cello 1 65 ≡ refused 12
+  pub find-wide : findLabelRule cello 2 65567 ≡ refused 12
   -- the read-only form: an empty name is cut at its place, and nothing at the front
-  pub part-found : namePart (findRule (cello ++ stalls) 2 31) ≡ pointer 22 11 11
-  pub part-blank : namePart (findRule (plain 1 0 1 32) 1 1) ≡ pointer 3 0 0
-  pub part-missing : namePart (findRule cello 1 8) ≡ pointer 0 0 0
-  pub part-refused : namePart (findRule cello 3 1) ≡ pointer 0 0 0
+  pub part-found : namePart (findLabelRule (cello ++ stalls) 2 31) ≡ pointer 22 11 11
+  pub part-blank : namePart (findLabelRule (plain 1 0 1 32) 1 1) ≡ pointer 3 0 0
+  pub part-missing : namePart (findLabelRule cello 1 8) ≡ pointer 0 0 0
+  pub part-refused : namePart (findLabelRule cello 3 1) ≡ pointer 0 0 0
   -- the writer
   pub added : addRule buffer 19 2 31 (bytes "STALLS LEFT") ≡ (gives 38, cello ++ stalls ++ replicate 2 0)
   pub added-first : addRule (replicate 19 0) 0 1 7 (bytes "CELLO") ≡ (gives 19, cello)
@@ -89,9 +89,9 @@ pub record Examples : Type 0 where
 
 pub examples : Examples
 unfolding
-    lastOf widthOf sizeOf limitOf isKind isNumber isName kindOf numberOf nameIn placeOf recordAt records isRecord recordOf isFresh bodyRefusal behindRefusal
-    recordRefusal earlier faultIn listRefusal keyRefusal newRefusal padded labelBytes readRule nameOf findRule namePart addRefusal addRule pointer textOf all
-    outcome after ruled put blanks trimmed
+    lastOf widthOf sizeOf limitOf isKind isNumberOf isName kindOf numberOf nameIn placeOf recordAt records isRecord recordOf isFresh bodyRefusal behindRefusal
+    recordRefusal earlier faultIn listRefusal keyRefusal newRefusal padded labelBytes readLabelsRule nameOf findLabelRule namePart addRefusal addRule pointer textOf all
+    outcome after ruled put isBlank trimmedLength
 examples =
     record {
       empty = refl;

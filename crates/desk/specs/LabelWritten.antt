@@ -4,17 +4,17 @@ use mathlib.Core.Path.{_≡_}
 use mathlib.Core.List.{List}
 use lib.ListN.{take, drop}
 use Rattle.strlib.specs.Refusal.{gives, at}
-use Rattle.cutting.specs.Cutting.{trimmed}
+use Rattle.cutting.specs.Cutting.{trimmedLength}
 use Rattle.records.specs.Record.{headSize, records}
-use Rattle.desk.specs.Label.{readRule, findRule}
+use Rattle.desk.specs.Label.{readLabelsRule, findLabelRule}
 
 -- a record was added behind the list of n bytes in the buffer b, and the list is now the first n′ bytes of b′
 pub record Written (b : List ℕ) (n kind number : ℕ) (name : List ℕ) (n′ : ℕ) (b′ : List ℕ) : Type 0 where
   -- the list was good and is good, with one record more
-  pub before : readRule (take n b) ≡ gives (records (take n b))
-  pub after : readRule (take n′ b′) ≡ gives (suc (records (take n b)))
+  pub before : readLabelsRule (take n b) ≡ gives (records (take n b))
+  pub after : readLabelsRule (take n′ b′) ≡ gives (suc (records (take n b)))
   -- the lookup gives the written name, trimmed: its place and length, and the bytes there
-  pub found : findRule (take n′ b′) kind number ≡ gives (at (n + headSize, trimmed name))
-  pub text : take (trimmed name) (drop (n + headSize) (take n′ b′)) ≡ take (trimmed name) name
+  pub found : findLabelRule (take n′ b′) kind number ≡ gives (at (n + headSize, trimmedLength name))
+  pub text : take (trimmedLength name) (drop (n + headSize) (take n′ b′)) ≡ take (trimmedLength name) name
   -- and every other lookup gives what it gave
-  pub others : (k m : ℕ) → ((k ≡ kind) × (m ≡ number) → ⊥) → findRule (take n′ b′) k m ≡ findRule (take n b) k m
+  pub others : (k m : ℕ) → ((k ≡ kind) × (m ≡ number) → ⊥) → findLabelRule (take n′ b′) k m ≡ findLabelRule (take n b) k m

@@ -22,28 +22,28 @@ use Rattle.strlib.proofs.Storing.{drop-take, put-length, put-kept, put-before}
 use Rattle.moving.specs.Moving.{moved}
 use Rattle.moving.proofs.Moving.{moved-in}
 use Rattle.moving.proofs.Keeping.{text-kept}
-use Rattle.editing.specs.Replacing.{isPart, newLength, replaced, replaceChecks, replaceRefusal, replaceRule}
+use Rattle.editing.specs.Replacing.{liesIn, newLength, replaced, replaceChecks, replaceRefusal, replaceRule}
 
 -- ---- the checks
 
 module _ (string1 string2 : StrPtr) where
-  pub part-low : string2 .start < string1 .start → false ≡ isPart string1 string2
-  unfolding isPart
+  pub part-low : string2 .start < string1 .start → false ≡ liesIn string1 string2
+  unfolding liesIn
   part-low h = rw (lt-leb (string1 .start) (string2 .start) h)
 
-  pub part-high : string1 .start ≤ string2 .start → string1 .length < string2 .start - string1 .start → false ≡ isPart string1 string2
-  unfolding isPart
+  pub part-high : string1 .start ≤ string2 .start → string1 .length < string2 .start - string1 .start → false ≡ liesIn string1 string2
+  unfolding liesIn
   part-high h k = rw (lt-leb (string2 .start + string2 .length) (string1 .start + string1 .length) (omega arith), and-false)
 
   pub part-last : string1 .start ≤ string2 .start → string2 .start - string1 .start ≤ string1 .length
-      → leb (string2 .length) (string1 .length - (string2 .start - string1 .start)) ≡ isPart string1 string2
-  unfolding isPart
+      → leb (string2 .length) (string1 .length - (string2 .start - string1 .start)) ≡ liesIn string1 string2
+  unfolding liesIn
   part-last h k =
       rw (le-leb (string1 .start) (string2 .start) h)
       (leb-same (string2 .length) (string1 .length - (string2 .start - string1 .start)) (string2 .start + string2 .length) (string1 .start + string1 .length) (λ z. omega arith) (λ z. omega arith))
 
-  part-is : isPart string1 string2 ≡ true → (string1 .start ≤ string2 .start) × (string2 .start + string2 .length ≤ string1 .start + string1 .length)
-  unfolding isPart
+  part-is : liesIn string1 string2 ≡ true → (string1 .start ≤ string2 .start) × (string2 .start + string2 .length ≤ string1 .start + string1 .length)
+  unfolding liesIn
   part-is e =
       let b = and-both (leb (string1 .start) (string2 .start)) (leb (string2 .start + string2 .length) (string1 .start + string1 .length)) e in
       (leb-true _ _ (b .0), leb-true _ _ (b .1))
@@ -64,17 +64,17 @@ module _ (string1 string2 : StrPtr) where
         leb-same (string3 .length) (string1 .maximum - (string1 .length - string2 .length)) (string1 .length - string2 .length + string3 .length) (string1 .maximum)
         (λ z. omega arith) (λ z. omega arith)
 
-    pub places-checked : (found : ℕ) (part : Bool) → part ≡ isPart string1 string2 → (found₁ : ℕ) → found₁ ≡ also found 4 part
+    pub places-checked : (found : ℕ) (part : Bool) → part ≡ liesIn string1 string2 → (found₁ : ℕ) → found₁ ≡ also found 4 part
         → (apart : Bool) → apart ≡ clear string1 string3 → (found₂ : ℕ) → found₂ ≡ also found₁ 5 apart
         → (fit : Bool) → fit ≡ leb (newLength string1 string2 string3) (string1 .maximum) → (found₃ : ℕ) → found₃ ≡ also found₂ 6 fit
-        → found₃ ≡ also (also (also found 4 (isPart string1 string2)) 5 (clear string1 string3)) 6 (leb (newLength string1 string2 string3) (string1 .maximum))
+        → found₃ ≡ also (also (also found 4 (liesIn string1 string2)) 5 (clear string1 string3)) 6 (leb (newLength string1 string2 string3) (string1 .maximum))
     places-checked found part d₁ found₁ e₁ apart d₂ found₂ e₂ fit d₃ found₃ e₃ = rw (e₃, d₃, e₂, d₂, e₁, d₁)
 
 module _ (s : List ℕ) (string1 string2 string3 : StrPtr) where
   pub replace-checked : (found₁ : ℕ) → found₁ ≡ also 0 3 (storeFits s) → (found₂ : ℕ) → found₂ ≡ also found₁ 1 (goodIn (length s) string1)
       → (found₃ : ℕ) → found₃ ≡ also found₂ 1 (goodIn (length s) string2) → (found₄ : ℕ) → found₄ ≡ also found₃ 1 (goodIn (length s) string3)
       → (found₅ : ℕ) → found₅ ≡ also found₄ 2 (readable s string1) → (found₆ : ℕ) → found₆ ≡ also found₅ 2 (readable s string3)
-      → (k : ℕ) → k ≡ also (also (also found₆ 4 (isPart string1 string2)) 5 (clear string1 string3)) 6 (leb (newLength string1 string2 string3) (string1 .maximum))
+      → (k : ℕ) → k ≡ also (also (also found₆ 4 (liesIn string1 string2)) 5 (clear string1 string3)) 6 (leb (newLength string1 string2 string3) (string1 .maximum))
       → k ≡ replaceRefusal s string1 string2 string3
   unfolding replaceRefusal
   replace-checked found₁ e₁ found₂ e₂ found₃ e₃ found₄ e₄ found₅ e₅ found₆ e₆ k e =
@@ -86,7 +86,7 @@ module _ (s : List ℕ) (string1 string2 string3 : StrPtr) where
     pub room : goodIn (length s) string1 ≡ true
     pub old : goodIn (length s) string2 ≡ true
     pub source : goodIn (length s) string3 ≡ true
-    pub part : isPart string1 string2 ≡ true
+    pub part : liesIn string1 string2 ≡ true
     pub apart : clear string1 string3 ≡ true
     pub fits : newLength string1 string2 string3 ≤ string1 .maximum
 

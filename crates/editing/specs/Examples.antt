@@ -7,7 +7,7 @@ use Rattle.strlib.specs.Quoted.{bytes}
 use Rattle.strlib.specs.Refusal.{refused, gives, outcome, after, ruled}
 use Rattle.strlib.specs.Store.{put}
 use Rattle.moving.specs.Moving.{reversed}
-use Rattle.editing.specs.Replacing.{isPart, newLength, replaced, replaceRefusal, replaceRule}
+use Rattle.editing.specs.Replacing.{liesIn, newLength, replaced, replaceRefusal, replaceRule}
 use Rattle.editing.specs.Reversing.{reverseRefusal, reverseRule, reverseFromRefusal, reverseFromRule}
 
 -- twenty characters and room for five more, then 'abc  '
@@ -24,7 +24,7 @@ pub record Examples : Type 0 where
       ≡ (refused 6, twenty (bytes "ABCDEFGHIJKLMNOPQRST....."))
   pub five : replaceRule (twenty (bytes "ABCDEFGHIJKLMNOPQRST.....")) (pointer 0 20 25) (pointer 1 0 19) (pointer 25 5 5)
       ≡ (gives (pointer 0 25 25), twenty (bytes "Aabc  BCDEFGHIJKLMNOPQRST"))
-  pub trimmed : replaceRule (twenty (bytes "ABCDEFGHIJKLMNOPQRST.....")) (pointer 0 20 25) (pointer 1 0 19) (pointer 25 3 5)
+  pub trimmedLength : replaceRule (twenty (bytes "ABCDEFGHIJKLMNOPQRST.....")) (pointer 0 20 25) (pointer 1 0 19) (pointer 25 3 5)
       ≡ (gives (pointer 0 23 25), twenty (bytes "AabcBCDEFGHIJKLMNOPQRST.."))
   -- 3.5, repstr: the second and third characters of '4321' removed; the bytes past the new length are as at entry
   pub removed : replaceRule (bytes "4321") (pointer 0 4 4) (pointer 1 2 3) (pointer 4 0 0) ≡ (gives (pointer 0 2 4), bytes "4121")
@@ -43,14 +43,14 @@ pub record Examples : Type 0 where
 
 -- it holds, by computing both sides
 pub examples : Examples
-unfolding pointer sized storeFits goodIn textOf characters readable apart clear all outcome after ruled put reversed isPart newLength replaced replaceRefusal replaceRule reverseRefusal reverseRule reverseFromRefusal reverseFromRule
+unfolding pointer sized storeFits goodIn textOf characters readable apart clear all outcome after ruled put reversed liesIn newLength replaced replaceRefusal replaceRule reverseRefusal reverseRule reverseFromRefusal reverseFromRule
 examples =
     record {
       from = refl;
       turned = refl;
       full = refl;
       five = refl;
-      trimmed = refl;
+      trimmedLength = refl;
       removed = refl;
       second = refl;
       elsewhere = refl;

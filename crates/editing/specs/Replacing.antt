@@ -10,8 +10,8 @@ use Rattle.strlib.specs.Store.{put}
 use Rattle.strlib.specs.declared.StrPtr.{StrPtr}
 
 -- string 2 is a part of string 1, by place
-unfoldable pub isPart : StrPtr → StrPtr → Bool
-isPart string1 string2 =
+unfoldable pub liesIn : StrPtr → StrPtr → Bool
+liesIn string1 string2 =
     leb (string1 .start) (string2 .start) && leb (string2 .start + string2 .length) (string1 .start + string1 .length)
 
 -- how long the result is
@@ -28,7 +28,7 @@ replaced s string1 string2 string3 =
 abbrev pub replaceChecks : List ℕ → StrPtr → StrPtr → StrPtr → List (ℕ × Bool)
 replaceChecks s string1 string2 string3 =
     (3, storeFits s) ∷ (1, goodIn (length s) string1) ∷ (1, goodIn (length s) string2) ∷ (1, goodIn (length s) string3)
-    ∷ (2, readable s string1) ∷ (2, readable s string3) ∷ (4, isPart string1 string2) ∷ (5, clear string1 string3)
+    ∷ (2, readable s string1) ∷ (2, readable s string3) ∷ (4, liesIn string1 string2) ∷ (5, clear string1 string3)
     ∷ (6, leb (newLength string1 string2 string3) (string1 .maximum)) ∷ []
 
 -- the number that they find, 0 for none

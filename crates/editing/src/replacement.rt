@@ -5,11 +5,11 @@ ghost use mathlib.Core.Path.{_≡_};
 ghost use lib.Dec.{leb};
 ghost use Rattle.strlib.specs.Pointer.{clear};
 ghost use Rattle.strlib.specs.Refusal.{also, answered};
-ghost use Rattle.editing.specs.Replacing.{isPart, newLength, replaceRefusal, replaceRule};
+ghost use Rattle.editing.specs.Replacing.{liesIn, newLength, replaceRefusal, replaceRule};
 
 // Whether the characters of string 2 lie among those of string 1.
-fn is_part(string1: StrPtr, string2: StrPtr) -> bool
-    ensures { λ r. ⌜ r ≡ isPart string1 string2 ⌝ }
+fn lies_in(string1: StrPtr, string2: StrPtr) -> bool
+    ensures { λ r. ⌜ r ≡ liesIn string1 string2 ⌝ }
 {
     if string2.start < string1.start {
         return false;
@@ -37,9 +37,9 @@ fn is_fit(string1: StrPtr, string2: StrPtr, string3: StrPtr) -> bool
 
 // The checks of the places and of the result: 4, 5 and 6.
 fn check_places(found: u8, string1: StrPtr, string2: StrPtr, string3: StrPtr) -> u8
-    ensures { λ r. ⌜ r ≡ also (also (also found 4 (isPart string1 string2)) 5 (clear string1 string3)) 6 (leb (newLength string1 string2 string3) (string1 .maximum)) ⌝ }
+    ensures { λ r. ⌜ r ≡ also (also (also found 4 (liesIn string1 string2)) 5 (clear string1 string3)) 6 (leb (newLength string1 string2 string3) (string1 .maximum)) ⌝ }
 {
-    let found = strlib::check(found, 4, is_part(string1, string2));
+    let found = strlib::check(found, 4, lies_in(string1, string2));
     let found = strlib::check(found, 5, strlib::is_clear(string1, string3));
     strlib::check(found, 6, is_fit(string1, string2, string3))
 }

@@ -95,7 +95,7 @@ module _ (a : CharAnswer) where
     character-refused n e h = rw e h
 
 module _ (a : LabelPlace) where
-  pub name-found : (place length : ℕ) → a ≡ Named place length → _≡_ {A = FlatName} (record { refusal = 0; found = true; place = place; length = length }) (flatName (labelPlaced a))
+  pub name-found : (place n : ℕ) → a ≡ Named place n → _≡_ {A = FlatName} (record { refusal = 0; found = true; place = place; length = n }) (flatName (labelPlaced a))
   unfolding flatName
   name-found place length e = rw e
 
@@ -110,7 +110,7 @@ module _ (a : LabelPlace) where
 
 -- the name as a part
 module _ (a : LabelPlace) (r : FlatPart) (p : StrPtr) (h : r ≡ flatPart p) where
-  pub part-found : (place length : ℕ) → a ≡ Named place length → p ≡ pointer place length length → r ≡ flatPart (namePart (labelPlaced a))
+  pub part-found : (place n : ℕ) → a ≡ Named place n → p ≡ pointer place n n → r ≡ flatPart (namePart (labelPlaced a))
   unfolding namePart
   part-found place length e q = rw (e, ← q) h
 

@@ -53,7 +53,7 @@ pub part-of : (p : StrPtr) → _≡_ {A = FlatPart} (record { offset = p .start;
 unfolding flatPart
 part-of p = refl
 
-pub label-of : (house : Bool) (p : StrPtr) → _≡_ {A = FlatLabel} (record { house = house; offset = p .start; length = p .length }) (flatLabel house p)
+pub label-of : (l : DeskLabel) → _≡_ {A = FlatLabel} (record { house = l .house; offset = l .place .start; length = l .place .length }) (flatLabel l)
 unfolding flatLabel
 label-of house p = refl
 

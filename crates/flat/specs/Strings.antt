@@ -6,7 +6,7 @@ use mathlib.Core.List.{List}
 use Rattle.strlib.specs.Pointer.{pointer}
 use Rattle.strlib.specs.Refusal.{Outcome, refused, gives}
 use Rattle.strlib.specs.declared.StrPtr.{StrPtr}
-use Rattle.cutting.specs.Cutting.{blanks}
+use Rattle.cutting.specs.Cutting.{isBlank}
 use Rattle.cutting.specs.Part.{sliceCut}
 use Rattle.cutting.specs.declared.Cut.the-variants.{Trimmed}
 use Rattle.copying.specs.declared.Wrote.{Wrote}
@@ -45,9 +45,5 @@ flatRound (gives w) = record { refusal = 0; completed = w .completed; to = w .to
 unfoldable pub flatPart : StrPtr → FlatPart
 flatPart p = record { offset = p .start; length = p .length }
 
-unfoldable pub flatLabel : Bool → StrPtr → FlatLabel
-flatLabel house p = record { house = house; offset = p .start; length = p .length }
-
--- the label shown on the desk, of the two names: the trimmed production name, or the trimmed house name where that is all blanks or empty
-unfoldable pub deskLabel : List ℕ → List ℕ → FlatLabel
-deskLabel production house = flatLabel (blanks production) (sliceCut (cond (blanks production) house production) Trimmed)
+unfoldable pub flatLabel : DeskLabel → FlatLabel
+flatLabel l = record { house = l .house; offset = l .place .start; length = l .place .length }

@@ -116,11 +116,12 @@ pub fn part(p: StrPtr) -> FlatPart
     }
 }
 
-pub fn label(house: bool, p: StrPtr) -> FlatLabel
-    ensures { λ r. ⌜ r ≡ flatLabel house p ⌝ }
+pub fn label(l: DeskLabel) -> FlatLabel
+    ensures { λ r. ⌜ r ≡ flatLabel l ⌝ }
 {
+    let p = l.place;
     FlatLabel {
-        house,
+        house: l.house,
         offset: p.start,
         length: p.length,
     }

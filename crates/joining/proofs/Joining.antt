@@ -52,7 +52,7 @@ module _ (s : List ℕ) (destination : StrPtr) (list : List StrPtr) (count : ℕ
     pub few : leb count 32 ≡ true
     pub room : goodIn (length s) destination ≡ true
     pub parts : all (goodIn (length s)) (take count list) ≡ true
-    pub read : all (readable s) (take count list) ≡ true
+    pub plain : all (readable s) (take count list) ≡ true
 
   pub record JoinPassed : Type 0 where
     pub listed : ListedPassed
@@ -65,7 +65,7 @@ module _ (s : List ℕ) (destination : StrPtr) (list : List StrPtr) (count : ℕ
   listed-passed : first (listedChecks s destination list count) ≡ 0 → ListedPassed
   listed-passed z =
       let ok = passed (listedChecks s destination list count) refl z in
-      record { fits = ok .0; few = ok .1 .0; room = ok .1 .1 .0; parts = ok .1 .1 .1 .0; read = ok .1 .1 .1 .1 .0 }
+      record { fits = ok .0; few = ok .1 .0; room = ok .1 .1 .0; parts = ok .1 .1 .1 .0; plain = ok .1 .1 .1 .1 .0 }
 
   pub join-passed : joinRefusal s destination list count ≡ 0 → JoinPassed
   unfolding joinRefusal

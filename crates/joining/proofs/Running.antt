@@ -65,7 +65,7 @@ module _ (s : List ℕ) (destination : StrPtr) (list : List StrPtr) (count : ℕ
   allowed : (t : List ℕ) (p : Place) → length t ≡ length s → texts t ps ≡ xss → placeIn list count p ≡ true → joinFromRefusal t destination list count p ≡ 0
   unfolding joinFromRefusal storeFits
   allowed t p l x q =
-      let a : all (readable t) ps ≡ true = texts-readable t ps ∙ rw x (sym (texts-readable s ps) ∙ ok .join .listed .read) in
+      let a : all (readable t) ps ≡ true = texts-readable t ps ∙ rw x (sym (texts-readable s ps) ∙ ok .join .listed .plain) in
       rw (l, ok .join .listed .fits, ok .join .listed .few, ok .join .listed .room, ok .join .listed .parts, a, q, ok .join .apart)
 
   piece-short : (n : ℕ) → length (piece xss m (at n)) ≤ m

@@ -9,7 +9,7 @@ use lib.Dec.{eqb}
 use lib.ListN.{length, take, drop}
 use borrow.Author.Tests.{eqb-true, eq-eqb}
 use Rattle.cutting.proofs.Bounding.{trimmed-le}
-use Rattle.cutting.specs.Cutting.{trimmed}
+use Rattle.cutting.specs.Cutting.{trimmedLength}
 use Rattle.records.proofs.Bytes.{label-kind, label-number, label-length, label-name}
 use Rattle.records.proofs.Checking.{Writable}
 use Rattle.records.proofs.Fronts.{unrefused}
@@ -80,8 +80,8 @@ module _ (l : List ℕ) (room kind number : ℕ) (name : List ℕ) (w : Writable
         rw (added-records, added-last, rec-other k m h) (sym (record-of-alike l (l ++ rec) (records l) (alike-more l rec g) k m))
 
     -- the trimmed name, where it lies
-    pub added-text : take (trimmed name) (drop (length l + headSize) (l ++ rec)) ≡ take (trimmed name) name
+    pub added-text : take (trimmedLength name) (drop (length l + headSize) (l ++ rec)) ≡ take (trimmedLength name) name
     added-text =
-        let h : trimmed name ≤ widthOf (kindOf (recordAt (l ++ rec) (records l))) =
+        let h : trimmedLength name ≤ widthOf (kindOf (recordAt (l ++ rec) (records l))) =
         rw (added-last, label-kind kind number name) (omega (arith, trimmed-le name, w .short)) in
-        (rw (added-place, added-name) at (name-text (l ++ rec) (records l) (trimmed name) h)) ∙ padded-text (widthOf kind) name
+        (rw (added-place, added-name) at (name-text (l ++ rec) (records l) (trimmedLength name) h)) ∙ padded-text (widthOf kind) name

@@ -11,7 +11,7 @@ use Rattle.strlib.proofs.Refusing.{inTurn, first-is, first-before, first-behind
 use Rattle.strlib.specs.Pointer.{pointer, textOf}
 use Rattle.strlib.specs.Refusal.{first, also}
 use Rattle.strlib.specs.declared.StrPtr.{StrPtr}
-use Rattle.records.specs.Record.{headSize, widthOf, sizeOf, limitOf, isKind, isNumber, isName, kindOf, numberOf, nameIn, isRecord, recordOf, records, isFresh}
+use Rattle.records.specs.Record.{headSize, widthOf, sizeOf, limitOf, isKind, isNumberOf, isName, kindOf, numberOf, nameIn, isRecord, recordOf, records, isFresh}
 use Rattle.records.specs.Record.{bodyChecks, bodyRefusal, keyChecks, keyRefusal, formChecks, newChecks, newRefusal}
 
 -- ---- what stands at the front
@@ -42,13 +42,13 @@ pub ruleset front-laws = (needs, byte-none, kind-read, number-read, name-read, r
 -- ---- the checks
 
 module _ (kind limit found₁ : ℕ) (d : limit ≡ limitOf kind) (e₁ : found₁ ≡ also 0 11 (leb 1 limit)) where
-  module _ (number : ℕ) (t : Bool) (f : t ≡ isNumber kind number) where
+  module _ (number : ℕ) (t : Bool) (f : t ≡ isNumberOf kind number) where
     pub key-checked : (found₂ : ℕ) → found₂ ≡ also found₁ 12 t → found₂ ≡ keyRefusal kind number
     unfolding keyRefusal isKind
     key-checked found₂ e₂ = first-is (keyChecks kind number) refl found₂ (rw (e₂, e₁, d, f))
 
   module _ (x : List ℕ) (k : kind ≡ kindOf x) (size found₂ : ℕ) (s : size ≡ sizeOf kind) (e₂ : found₂ ≡ also found₁ 11 (leb size (length x))) where
-    pub body-checked : (number : ℕ) (t : Bool) (found₃ : ℕ) → number ≡ numberOf x → t ≡ isNumber kind number → found₃ ≡ also found₂ 12 t
+    pub body-checked : (number : ℕ) (t : Bool) (found₃ : ℕ) → number ≡ numberOf x → t ≡ isNumberOf kind number → found₃ ≡ also found₂ 12 t
         → (name : List ℕ) (u : Bool) (found₄ : ℕ) → name ≡ nameIn x → u ≡ isName name → found₄ ≡ also found₃ 2 u → found₄ ≡ bodyRefusal x
     unfolding bodyRefusal isKind
     body-checked number t found₃ n f e₃ name u found₄ m g e₄ = first-is (bodyChecks x) refl found₄ (rw (e₄, e₃, e₂, e₁, g, m, f, n, s, d, k))
@@ -84,7 +84,7 @@ pub ruleset new-laws = (needs, new-form, new-behind)
 
 pub record Writable (l : List ℕ) (room kind number : ℕ) (name : List ℕ) : Type 0 where
   pub kinds : isKind kind ≡ true
-  pub numbers : isNumber kind number ≡ true
+  pub numbers : isNumberOf kind number ≡ true
   pub short : length name ≤ widthOf kind
   pub plain : isName name ≡ true
   pub fresh : isFresh l kind number ≡ true
@@ -104,6 +104,6 @@ writable l room kind number name e =
     }
 
 -- its kind and number may be asked for
-pub key-good : (kind number : ℕ) → isKind kind ≡ true → isNumber kind number ≡ true → keyRefusal kind number ≡ 0
+pub key-good : (kind number : ℕ) → isKind kind ≡ true → isNumberOf kind number ≡ true → keyRefusal kind number ≡ 0
 unfolding keyRefusal
 key-good kind number e f = rw (e, f)

@@ -9,14 +9,14 @@ use lib.Seq.{take-append-le, drop-append-le, length-take-le}
 use borrow.Author.Tests.{leb-true, le-leb}
 use Rattle.strlib.proofs.Refusing.{passed, first-before, first-behind}
 use Rattle.records.proofs.Sizes.{size-least, size-width}
-use Rattle.records.specs.Record.{headSize, widthOf, sizeOf, isKind, isNumber, isName, kindOf, numberOf, nameIn, isFresh}
+use Rattle.records.specs.Record.{headSize, widthOf, sizeOf, isKind, isNumberOf, isName, kindOf, numberOf, nameIn, isFresh}
 use Rattle.records.specs.Record.{bodyChecks, bodyRefusal, behindRefusal}
 
 -- the record at the front of `rest` is not refused by itself
 pub record Body (rest : List ℕ) : Type 0 where
   pub kind : isKind (kindOf rest) ≡ true
   pub whole : sizeOf (kindOf rest) ≤ length rest
-  pub number : isNumber (kindOf rest) (numberOf rest) ≡ true
+  pub number : isNumberOf (kindOf rest) (numberOf rest) ≡ true
   pub name : isName (nameIn rest) ≡ true
 
 pub body-passes : (rest : List ℕ) → bodyRefusal rest ≡ 0 → Body rest

@@ -15,8 +15,8 @@ use mir.Val.{Fits}
 use Rattle.strlib.proofs.Refusing.{and-both}
 use Rattle.strlib.specs.Pointer.{all}
 use Rattle.cutting.proofs.Bounding.{trimmed-le, trimmed-padded}
-use Rattle.cutting.specs.Cutting.{trimmed}
-use Rattle.records.specs.Record.{headSize, widthOf, sizeOf, limitOf, isKind, isNumber, isName, earlier, padded}
+use Rattle.cutting.specs.Cutting.{trimmedLength}
+use Rattle.records.specs.Record.{headSize, widthOf, sizeOf, limitOf, isKind, isNumberOf, isName, earlier, padded}
 
 -- ---- kinds and numbers
 
@@ -49,13 +49,13 @@ module _ (kind : ℕ) where
   unfolding isKind
   kind-is m e = rw e
 
-  pub number-is : (number m : ℕ) (b : Bool) → m ≡ limitOf kind → b ≡ (leb 1 number && leb number m) → b ≡ isNumber kind number
-  unfolding isNumber
+  pub number-is : (number m : ℕ) (b : Bool) → m ≡ limitOf kind → b ≡ (leb 1 number && leb number m) → b ≡ isNumberOf kind number
+  unfolding isNumberOf
   number-is number m b e f = rw (← e) f
 
 -- the kinds end with 2, and their numbers with 128
-pub in-range : (kind number : ℕ) → isNumber kind number ≡ true → (kind ≤ 2) × (number ≤ 128)
-unfolding isNumber limitOf
+pub in-range : (kind number : ℕ) → isNumberOf kind number ≡ true → (kind ≤ 2) × (number ≤ 128)
+unfolding isNumberOf limitOf
 in-range kind number e =
     let b = and-both (leb 1 number) (leb number (limitOf kind)) e in
     go (eqb kind 1) (eqb kind 2) refl refl (leb-true 1 number (b .0)) (leb-true number (limitOf kind) (b .1))
@@ -102,14 +102,14 @@ pub padded-length : (w : ℕ) (name : List ℕ) → length name ≤ w → length
 unfolding padded
 padded-length w name h = simp (length-append, length-replicate) (omega arith)
 
-pub padded-trimmed : (w : ℕ) (name : List ℕ) → trimmed (padded w name) ≡ trimmed name
+pub padded-trimmed : (w : ℕ) (name : List ℕ) → trimmedLength (padded w name) ≡ trimmedLength name
 unfolding padded
 padded-trimmed w name = trimmed-padded (w - length name) name
 
 -- the trimmed name stands at its front
-pub padded-text : (w : ℕ) (name : List ℕ) → take (trimmed name) (padded w name) ≡ take (trimmed name) name
+pub padded-text : (w : ℕ) (name : List ℕ) → take (trimmedLength name) (padded w name) ≡ take (trimmedLength name) name
 unfolding padded
-padded-text w name = take-append-le (trimmed name) name (replicate (w - length name) 32) (trimmed-le name)
+padded-text w name = take-append-le (trimmedLength name) name (replicate (w - length name) 32) (trimmed-le name)
 
 -- ---- one refusal behind another
 

@@ -28,8 +28,8 @@ limitOf kind = cond (eqb kind 1) 64 (cond (eqb kind 2) 128 0)
 unfoldable pub isKind : ℕ → Bool
 isKind kind = leb 1 (limitOf kind)
 
-unfoldable pub isNumber : ℕ → ℕ → Bool
-isNumber kind number = leb 1 number && leb number (limitOf kind)
+unfoldable pub isNumberOf : ℕ → ℕ → Bool
+isNumberOf kind number = leb 1 number && leb number (limitOf kind)
 
 -- the characters of a name are 32 to 126
 unfoldable pub isName : List ℕ → Bool
@@ -75,7 +75,7 @@ isFresh l kind number = eqb (recordOf l kind number (records l)) 0
 -- the record at the front of `rest` by itself, in this order: kind, short body, number, name
 abbrev pub bodyChecks : List ℕ → List (ℕ × Bool)
 bodyChecks rest =
-    (11, isKind (kindOf rest)) ∷ (11, leb (sizeOf (kindOf rest)) (length rest)) ∷ (12, isNumber (kindOf rest) (numberOf rest)) ∷ (2, isName (nameIn rest)) ∷ []
+    (11, isKind (kindOf rest)) ∷ (11, leb (sizeOf (kindOf rest)) (length rest)) ∷ (12, isNumberOf (kindOf rest) (numberOf rest)) ∷ (2, isName (nameIn rest)) ∷ []
 
 unfoldable pub bodyRefusal : List ℕ → ℕ
 bodyRefusal rest = first (bodyChecks rest)
@@ -107,7 +107,7 @@ listRefusal l = faultIn l (records l)
 
 -- what a kind and a number that are asked for or added are refused with
 abbrev pub keyChecks : ℕ → ℕ → List (ℕ × Bool)
-keyChecks kind number = (11, isKind kind) ∷ (12, isNumber kind number) ∷ []
+keyChecks kind number = (11, isKind kind) ∷ (12, isNumberOf kind number) ∷ []
 
 unfoldable pub keyRefusal : ℕ → ℕ → ℕ
 keyRefusal kind number = first (keyChecks kind number)

@@ -1,6 +1,6 @@
 // Kinds and their limits, and what a kind, a number and a name have to be.
 ghost use mathlib.Core.Path.{_≡_};
-ghost use Rattle.records.specs.Record.{widthOf, sizeOf, limitOf, isNumber, isName, keyRefusal};
+ghost use Rattle.records.specs.Record.{widthOf, sizeOf, limitOf, isNumberOf, isName, keyRefusal};
 
 // The largest matrix.
 pub const MICROPHONES_MAX: usize = 64;
@@ -40,7 +40,7 @@ pub fn size_of(kind: u8) -> usize
 }
 
 pub fn is_number(kind: u8, number: usize) -> bool
-    ensures { λ r. ⌜ r ≡ isNumber kind number ⌝ }
+    ensures { λ r. ⌜ r ≡ isNumberOf kind number ⌝ }
 {
     strlib::both(1 <= number, number <= limit_of(kind))
 }

@@ -19,7 +19,7 @@ use Rattle.search.specs.Inner.{placed, findingOf, Within}
 use Rattle.search.specs.Rule.{searchChecks, searchRefusal, sought, partsOf, splitOf, given, searchBy, searchRule, matchAfterRule, beforeMatchRule}
 use Rattle.search.specs.declared.Match.{Match}
 use Rattle.search.specs.declared.Split.{Split}
-use Rattle.search.specs.declared.find.Place.{Place}
+use Rattle.search.specs.declared.find.Spot.{Spot}
 use Rattle.search.specs.declared.find.Finding.{Finding}
 use Rattle.search.specs.declared.find.Finding.the-variants.{Found as FoundAt, Nothing as FoundNothing, Refused as FoundRefused}
 use Rattle.search.proofs.Meaning.{search-law}
@@ -118,7 +118,7 @@ module _ (s : List ℕ) (host : StrPtr) (l : List StrPtr) (c : ℕ) where
       record { from = b .0; order = b .1 .0; to = omega arith; room = r .0; end = omega arith }
 
   module _ (r : Finding) (e : findingOf r ≡ outcome (searchRefusal s host l c) (sought s host (take c l))) where
-    module _ (p : Place) (q : r ≡ FoundAt p) where
+    module _ (p : Spot) (q : r ≡ FoundAt p) where
       pub found-within : Within host (p .pos1) (p .pos2)
       found-within = within (p .number) (p .pos1) (p .pos2) (sym e ∙ ap findingOf q)
 
@@ -129,7 +129,7 @@ module _ (s : List ℕ) (host : StrPtr) (l : List StrPtr) (c : ℕ) where
       found-last = within-last host (p .pos1) (p .pos2) found-within
 
     module _ {A : Type 0} (f : ℕ → ℕ → ℕ → A) where
-      pub answer-found : (p : Place) (m : A) → r ≡ FoundAt p → m ≡ f (p .number) (p .pos1) (p .pos2) → gives (at m) ≡ searchBy f s host l c
+      pub answer-found : (p : Spot) (m : A) → r ≡ FoundAt p → m ≡ f (p .number) (p .pos1) (p .pos2) → gives (at m) ≡ searchBy f s host l c
       unfolding searchBy given
       answer-found p m q z = let g = outcome-gave _ _ _ (sym e ∙ ap findingOf q) in outcome-yes 0 (searchRefusal s host l c) (sym (g .0)) (at m) _ refl (rw (g .1, z))
 

@@ -22,7 +22,8 @@ abbrev pub firstNumber : Bool → ℕ → ℕ
 firstNumber true n = 1
 firstNumber false n = further n
 
--- the number of the first listed string that stands at the front of w, 0 for none
+-- the number of the first listed string that stands at the front of w, 0 for none. With such a string a search over w is closed: nothing
+-- behind the front can come before it
 abbrev pub closed : List (List ℕ) → List ℕ → ℕ
 closed [] w = zero
 closed (s ∷ ss) w = firstNumber (isPrefix s w) (closed ss w)

@@ -11,14 +11,14 @@ ghost use Rattle.search.specs.Inner.{placed, findingOf};
 ghost use Rattle.search.specs.Rule.{searchRefusal, sought};
 
 // String `number` of the list stands from pos1 to pos2; number 0 for none.
-pub struct Place {
+pub struct Spot {
     pub number: usize,
     pub pos1: usize,
     pub pos2: usize,
 }
 
 pub enum Finding {
-    Found(Place),
+    Found(Spot),
     Nothing,
     Refused(u8),
 }
@@ -31,7 +31,7 @@ fn starts_with(text: &[u8], string: &[u8]) -> bool
 }
 
 // The smallest position, then the smallest number.
-fn find(store: &[u8], text: &[u8], list: StrList, count: usize) -> Place
+fn find(store: &[u8], text: &[u8], list: StrList, count: usize) -> Spot
     requires { ⌜ count ≤ 32 ⌝ }
     ensures { λ r. ⌜ placed (r .number) (r .pos1) (r .pos2) ≡ plainSearch (texts (now (store .entry)) (take count list)) (now (text .entry)) ⌝ }
 {
@@ -52,7 +52,7 @@ fn find(store: &[u8], text: &[u8], list: StrList, count: usize) -> Place
         }
         skipped += 1;
     }
-    Place {
+    Spot {
         number,
         pos1: skipped + 1,
         pos2,

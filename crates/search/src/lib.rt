@@ -73,11 +73,11 @@ pub fn search_before_match(store: &[u8], host: StrPtr, list: StrList, count: usi
 }
 
 // A part of the host, from `skip` behind its start.
-fn part_of(host: StrPtr, skip: usize, length: usize, maximum: usize) -> StrPtr
+fn part_of(host: StrPtr, skip: usize, n: usize, maximum: usize) -> StrPtr
     requires { ⌜ host .start + skip ≤ 65536 ⌝ }
-    ensures { λ r. ⌜ r ≡ partOf host skip length maximum ⌝ }
+    ensures { λ r. ⌜ r ≡ partOf host skip n maximum ⌝ }
 {
-    host.part(host.start + skip, length, maximum)
+    host.part(host.start + skip, n, maximum)
 }
 
 fn parts_of(host: StrPtr, number: usize, pos1: usize, pos2: usize) -> Match

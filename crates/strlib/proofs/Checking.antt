@@ -44,11 +44,11 @@ pub record IntoPassed (s : List ℕ) (destination source : StrPtr) : Type 0 wher
   pub small : length s ≤ 65536
   pub room : goodIn (length s) destination ≡ true
   pub part : goodIn (length s) source ≡ true
-  pub read : readable s source ≡ true
+  pub plain : readable s source ≡ true
 
 pub into-passed : (s : List ℕ) (destination source : StrPtr) → first (intoChecks s destination source) ≡ 0 → IntoPassed s destination source
 into-passed s destination source z =
     let ok = passed (intoChecks s destination source) refl z in
-    record { small = fits-is s (ok .0); room = ok .1 .0; part = ok .1 .1 .0; read = ok .1 .1 .1 .0 }
+    record { small = fits-is s (ok .0); room = ok .1 .0; part = ok .1 .1 .0; plain = ok .1 .1 .1 .0 }
 
 pub ruleset into-laws = (needs, into-checked)

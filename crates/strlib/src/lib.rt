@@ -82,35 +82,35 @@ impl StrPtr {
     pub const NUMBER_MAX: i64 = 34359738367;
 
     // A pointer stores what it is given; whether it is good depends on the store of a call.
-    pub fn new(start: usize, length: usize, maximum: usize) -> Self
-        ensures { λ r. ⌜ r ≡ pointer start length maximum ⌝ }
+    pub fn new(start: usize, n: usize, maximum: usize) -> Self
+        ensures { λ r. ⌜ r ≡ pointer start n maximum ⌝ }
     {
         Self {
             start,
-            length,
+            length: n,
             maximum,
         }
     }
 
     // A string that fills its room.
-    pub fn full(start: usize, length: usize) -> Self
-        ensures { λ r. ⌜ r ≡ pointer start length length ⌝ }
+    pub fn full(start: usize, n: usize) -> Self
+        ensures { λ r. ⌜ r ≡ pointer start n n ⌝ }
     {
-        Self::new(start, length, length)
+        Self::new(start, n, n)
     }
 
     // The same room with another length.
-    pub fn sized(self, length: usize) -> Self
-        ensures { λ r. ⌜ r ≡ sized self length ⌝ }
+    pub fn sized(self, n: usize) -> Self
+        ensures { λ r. ⌜ r ≡ sized self n ⌝ }
     {
-        Self::new(self.start, length, self.maximum)
+        Self::new(self.start, n, self.maximum)
     }
 
     // A part of the string, at a place of its own.
-    pub fn part(self, start: usize, length: usize, maximum: usize) -> Self
-        ensures { λ r. ⌜ r ≡ partAt self start length maximum ⌝ }
+    pub fn part(self, start: usize, n: usize, maximum: usize) -> Self
+        ensures { λ r. ⌜ r ≡ partAt self start n maximum ⌝ }
     {
-        Self::new(start, length, maximum)
+        Self::new(start, n, maximum)
     }
 
     // Whether the pointer is good for a store of n bytes.

@@ -29,14 +29,14 @@ pub fn text(store: &[u8], p: StrPtr) -> &[u8]
 {
     let n = store.len();
     let a = p.start;
-    let length = p.length;
+    let m = p.length;
     if n < a {
         return &store[n..];
     }
-    if n - a < length {
+    if n - a < m {
         return &store[a..];
     }
-    let e = a + length;
+    let e = a + m;
     &store[a..e]
 }
 

@@ -12,7 +12,7 @@ use Rattle.strlib.specs.declared.StrPtr.{StrPtr}
 use Rattle.compare.specs.Compare.{compareRule}
 use Rattle.compare.specs.declared.Comparison.{Comparison}
 use Rattle.cutting.proofs.Bounding.{trimmed-none, trimmed-some}
-use Rattle.cutting.specs.Cutting.{trimmed, inBounds, cutOf}
+use Rattle.cutting.specs.Cutting.{trimmedLength, inBounds, cutOf}
 use Rattle.cutting.specs.Part.{whole, sliceCut}
 use Rattle.cutting.specs.declared.Cut.the-variants.{Trimmed}
 use Rattle.search.specs.Search.{Result}
@@ -112,9 +112,9 @@ translate-is r a s list count old new h t =
 
 -- ---- the desk label
 
-left : (xs : List ℕ) → sliceCut xs Trimmed .length ≡ trimmed xs
+left : (xs : List ℕ) → sliceCut xs Trimmed .length ≡ trimmedLength xs
 unfolding sliceCut inBounds cutOf sized textOf whole pointer
-left xs = ap trimmed (take-length xs)
+left xs = ap trimmedLength (take-length xs)
 
 -- the trimmed production name's length tells whether that name is blank
 module _ (r : FlatLabel) (p : StrPtr) (production house : List ℕ) (e : p ≡ sliceCut production Trimmed) where
@@ -125,7 +125,7 @@ module _ (r : FlatLabel) (p : StrPtr) (production house : List ℕ) (e : p ≡ s
   pub label-production : r ≡ flatLabel false p → (p .length ≡ 0 → ⊥) → r ≡ deskLabel production house
   unfolding deskLabel
   label-production h z =
-      rw (trimmed-some production (λ (n : trimmed production ≡ 0). z (ap (λ (p : StrPtr). p .length) e ∙ left production ∙ n)), ← e) h
+      rw (trimmed-some production (λ (n : trimmedLength production ≡ 0). z (ap (λ (p : StrPtr). p .length) e ∙ left production ∙ n)), ← e) h
 
 pub ruleset flat-laws = (
   needs,

@@ -78,11 +78,7 @@ pub extern "C" fn strlib_trimmed_part(bytes: &[u8]) -> FlatPart
 
 #[no_mangle]
 pub extern "C" fn strlib_desk_label(production: &[u8], house: &[u8]) -> FlatLabel
-    ensures { λ r. ⌜ r ≡ deskLabel (now (production .entry)) (now (house .entry)) ⌝ }
+    ensures { λ r. ⌜ r ≡ flatLabel (labelPlace (now (production .entry)) (now (house .entry))) ⌝ }
 {
-    let name = cutting::place_of(production, Cut::Trimmed);
-    if name.length == 0 {
-        return flat::label(true, cutting::place_of(house, Cut::Trimmed));
-    }
-    flat::label(false, name)
+    flat::label(cutting::label_place(production, house))
 }

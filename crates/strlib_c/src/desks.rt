@@ -5,7 +5,7 @@ use flat::FlatPart;
 use flat::FlatSize;
 ghost use mathlib.Core.Path.{_≡_};
 ghost use Rattle.desk.specs.Cue.{cueRule};
-ghost use Rattle.desk.specs.Label.{readRule, findRule, namePart, addRule};
+ghost use Rattle.desk.specs.Label.{readLabelsRule, findLabelRule, namePart, addRule};
 ghost use Rattle.flat.specs.Strings.{flatWith, flatPart};
 ghost use Rattle.flat.specs.Finds.{flatName};
 ghost use Rattle.flat.specs.Values.{flatCue, flatSize};
@@ -19,21 +19,21 @@ pub extern "C" fn strlib_read_cue(line: &[u8], microphones: usize, loudspeakers:
 
 #[no_mangle]
 pub extern "C" fn strlib_read_labels(list: &[u8]) -> FlatSize
-    ensures { λ r. ⌜ r ≡ flatSize (readRule (now (list .entry))) ⌝ }
+    ensures { λ r. ⌜ r ≡ flatSize (readLabelsRule (now (list .entry))) ⌝ }
 {
     flat::records(desk::read_labels(list))
 }
 
 #[no_mangle]
 pub extern "C" fn strlib_find_label(list: &[u8], kind: u8, number: usize) -> FlatName
-    ensures { λ r. ⌜ r ≡ flatName (findRule (now (list .entry)) kind number) ⌝ }
+    ensures { λ r. ⌜ r ≡ flatName (findLabelRule (now (list .entry)) kind number) ⌝ }
 {
     flat::name(desk::find_label(list, kind, number))
 }
 
 #[no_mangle]
 pub extern "C" fn strlib_label_name(list: &[u8], kind: u8, number: usize) -> FlatPart
-    ensures { λ r. ⌜ r ≡ flatPart (namePart (findRule (now (list .entry)) kind number)) ⌝ }
+    ensures { λ r. ⌜ r ≡ flatPart (namePart (findLabelRule (now (list .entry)) kind number)) ⌝ }
 {
     flat::name_part(desk::find_label(list, kind, number))
 }
@@ -41,12 +41,12 @@ pub extern "C" fn strlib_label_name(list: &[u8], kind: u8, number: usize) -> Fla
 #[no_mangle]
 pub extern "C" fn strlib_add_label(
     buffer: &mut [u8],
-    length: usize,
+    used: usize,
     kind: u8,
     number: usize,
     name: &[u8],
 ) -> FlatSize
-    ensures { λ r. ⌜ (r, now (buffer .exit)) ≡ flatWith flatSize (addRule (now (buffer .entry)) length kind number (now (name .entry))) ⌝ }
+    ensures { λ r. ⌜ (r, now (buffer .exit)) ≡ flatWith flatSize (addRule (now (buffer .entry)) used kind number (now (name .entry))) ⌝ }
 {
-    flat::added(desk::add_label(buffer, length, kind, number, name))
+    flat::added(desk::add_label(buffer, used, kind, number, name))
 }

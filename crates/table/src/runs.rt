@@ -1,3 +1,4 @@
+// `run`: the checks, then the run over the host from state 1 with nothing read.
 use super::Note;
 use super::Progress;
 use super::RunAnswer;

@@ -26,7 +26,7 @@ host-found ss old new s host t = go (hostRefusal s host) refl
     go : (k : ℕ) → hostRefusal s host ≡ k → noteIn (runRule s host new) ≡ hostRule ss s host
     go zero e =
         let c = passed (hostChecks s host) refl e in
-        t .finds s host (record { fits = c .0; good = c .1 .0; read = c .1 .1 .0 }) ∙ rw (c .0, c .1 .0, c .1 .1 .0)
+        t .finds s host (record { fits = c .0; good = c .1 .0; plain = c .1 .1 .0 }) ∙ rw (c .0, c .1 .0, c .1 .1 .0)
     go (suc k) e =
         let later : List (ℕ × Bool) = (10, isSized new) ∷ (10, isRest (runOver new (textOf s host))) ∷ [] in
         let f = first-before (hostChecks s host) later (suc k) (sym e) (λ z. omega arith) in

@@ -1,4 +1,5 @@
--- One translation and two hosts, in the words of demand 3: the answers are those of the plain search, and no table is mentioned. Assumes nothing.
+-- One translation and two hosts, in the words of demand 3: the answers are those of the plain search; the words lent are as the translator
+-- leaves them. Assumes nothing.
 use Prim.Native.Nat.{ℕ}
 use mathlib.Core.Path.{_≡_}
 use mathlib.Core.Bool.{Bool}

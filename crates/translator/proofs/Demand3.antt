@@ -43,7 +43,7 @@ pub demand-3 : Demand3
 unfolding outcome Words translateRefusal
 demand-3 s list count old l room answer new t =
     let none : translateRefusal s list count (length old) ≡ 0
-    = rw (l .fits, le-leb count 32 (l .few), l .good, l .read, le-leb (total (listed s list count)) 240 (l .small), le-leb 31461 (length old) room) in
+    = rw (l .fits, le-leb count 32 (l .few), l .good, l .plain, le-leb (total (listed s list count)) 240 (l .small), le-leb 31461 (length old) room) in
     let table : Table (listed s list count) old new = rw none at (t .words) in
     record {
       done = t .answered ∙ ap (λ (k : ℕ). outcome k tt) none;

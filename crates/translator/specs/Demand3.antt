@@ -18,7 +18,7 @@ pub record Listed (s : List ℕ) (list : List StrPtr) (count : ℕ) : Type 0 whe
   pub fits : storeFits s ≡ true
   pub few : count ≤ 32
   pub good : all (goodIn (length s)) (take count list) ≡ true
-  pub read : all (readable s) (take count list) ≡ true
+  pub plain : all (readable s) (take count list) ≡ true
   pub small : total (listed s list count) ≤ 240
 
 -- what a run over the words gives of one host: it does not refuse; the string, start and end of its last note are the plain search's; and in

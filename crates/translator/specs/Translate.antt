@@ -32,7 +32,7 @@ translateRefusal s list count words = first (translateChecks s list count words)
 pub record Host (s : List ℕ) (host : StrPtr) : Type 0 where
   pub fits : storeFits s ≡ true
   pub good : goodIn (length s) host ≡ true
-  pub read : readable s host ≡ true
+  pub plain : readable s host ≡ true
 
 -- what a run answers, the number read left out
 abbrev pub noteIn : Outcome (Result × ℕ) → Outcome Result

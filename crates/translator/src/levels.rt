@@ -1,3 +1,4 @@
+// `translate`: the checks, then the rows of all texts, level by level.
 use super::TranslateAnswer;
 use strlib::StrList;
 use strlib::StrPtr;

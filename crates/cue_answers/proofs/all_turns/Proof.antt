@@ -1,13 +1,13 @@
 use mathlib.Core.Path.{_≡_}
 use lib.ListN.{length}
-use Rattle.cue_answers.specs.Loop.{Turns}
+use Rattle.cue_answers.specs.Loop.{TurnsMade}
 use Rattle.cue_answers.proofs.Looping.{turns-more, loop-laws}
 use Rattle.cue_answers.proofs.all_turns.Statement.{statement}
 use Rattle.cue_answers.proofs.all_turns.Tie as tie
 
 abbrev Inv-loop : tie.InvT-loop
 Inv-loop fd piece₀ hold₀ out₀ r₀ turns₀ piece hold out r turns =
-    (length piece ≡ length piece₀) × (length out ≡ length out₀) × Turns r₀ (length piece₀) hold₀ out₀ turns r hold out
+    (length piece ≡ length piece₀) × (length out ≡ length out₀) × TurnsMade r₀ (length piece₀) hold₀ out₀ turns r hold out
 
 abbrev μ-loop : tie.MeasureT-loop
 μ-loop fd piece₀ hold₀ out₀ r₀ turns₀ piece hold out r turns = turns

@@ -4,7 +4,7 @@ use super::read::LabelCount;
 ghost use mathlib.Core.Path.{_≡_};
 ghost use Rattle.strlib.specs.Refusal.{gives};
 ghost use Rattle.cutting.specs.Part.{IsPart};
-ghost use Rattle.desk.specs.Label.{nameOf, labelPlaced, findRule, namePart};
+ghost use Rattle.desk.specs.Label.{nameOf, labelPlaced, findLabelRule, namePart};
 ghost use Rattle.desk.specs.LabelInner.{Counted};
 
 // The answer of a lookup: where the trimmed name lies in the list.
@@ -25,12 +25,14 @@ fn name_of(list: &[u8], k: usize) -> LabelPlace
     let rest = records::record_at(list, k - 1);
     let place = list.len() - rest.len() + records::HEAD;
     let name = cutting::trimmed_part(records::name_in(rest));
-    let length = name.len();
-    LabelPlace::Found { place, length }
+    LabelPlace::Found {
+        place,
+        length: name.len(),
+    }
 }
 
 pub fn find_label(list: &[u8], kind: u8, number: usize) -> LabelPlace
-    ensures { λ r. ⌜ labelPlaced r ≡ findRule (now (list .entry)) kind number ⌝ }
+    ensures { λ r. ⌜ labelPlaced r ≡ findLabelRule (now (list .entry)) kind number ⌝ }
 {
     let count = read::read_labels(list);
     match count {
@@ -47,7 +49,7 @@ pub fn find_label(list: &[u8], kind: u8, number: usize) -> LabelPlace
 
 // The trimmed name itself; on a refusal or no record the empty part at the list's front.
 pub fn label_name(list: &[u8], kind: u8, number: usize) -> &[u8]
-    ensures { λ r. ⌜ IsPart r (list .entry) (namePart (findRule (now (list .entry)) kind number)) ⌝ }
+    ensures { λ r. ⌜ IsPart r (list .entry) (namePart (findLabelRule (now (list .entry)) kind number)) ⌝ }
 {
     let found = find_label(list, kind, number);
     match found {

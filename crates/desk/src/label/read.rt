@@ -1,6 +1,6 @@
 // The reader. It marks each kind and number that it met, so that its work grows with the list only.
 ghost use mathlib.Core.Path.{_≡_};
-ghost use Rattle.desk.specs.Label.{labelCounted, readRule};
+ghost use Rattle.desk.specs.Label.{labelCounted, readLabelsRule};
 ghost use Rattle.desk.specs.LabelInner.{Markable, markOf};
 
 // Marks of one kind, for the numbers from 0 on, and marks in all.
@@ -25,7 +25,7 @@ fn mark_of(kind: u8, number: usize) -> usize
 // How many records a list has, or what the first faulty one is refused with. A good list has each kind and number once
 // and so 192 records at most: of a longer list, record 193 is the last that is looked at.
 pub fn read_labels(list: &[u8]) -> LabelCount
-    ensures { λ r. ⌜ labelCounted r ≡ readRule (now (list .entry)) ⌝ }
+    ensures { λ r. ⌜ labelCounted r ≡ readLabelsRule (now (list .entry)) ⌝ }
 {
     let mut met = [false; MARKS];
     let mut at = 0;

@@ -2,8 +2,8 @@ use Rattle.editing.proofs.Replacing.{part-laws}
 use Rattle.editing.proofs.replacement.is_part.Statement.{statement}
 use Rattle.editing.proofs.replacement.is_part.Tie as tie
 
-pub is-part-spec : {M : Type 1} → statement M
-is-part-spec =
+pub lies-in-spec : {M : Type 1} → statement M
+lies-in-spec =
     tie.close
     (tie.spec
     (λ c. search part-laws)

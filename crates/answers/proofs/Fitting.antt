@@ -6,10 +6,11 @@ use mathlib.Core.List.{List, [], _∷_, _++_}
 use Prim.Native.Nat.{ℕ, suc, _+_, _-_, _*_, _≤_}
 use native.Mathlib.Omega.{arith}
 use lib.Dec.{eqb}
-use lib.IntN.{ℤ, pos, negsuc, natAbs}
+use lib.IntN.{ℤ, natAbs}
 use lib.ListN.{length, length-append}
 use Rattle.number.proofs.Counting.{digits-under}
-use Rattle.number.specs.Written.{digits, sign, written}
+use Rattle.number.proofs.Writing.{written-under}
+use Rattle.number.specs.Written.{digits, written}
 use Rattle.strlib.specs.Refusal.{Outcome, refused, gives}
 use Rattle.desk.proofs.CueGiven.{cue-given, gain-small, cue-refused}
 use Rattle.desk.specs.Cue.{cueRule}
@@ -20,9 +21,7 @@ use Rattle.answers.specs.Program.{counted, answersText, goods, totals, e
 -- ---- one answer
 
 gain-fits : (z : ℤ) → natAbs z ≤ 960 → length (written 10 z) ≤ 4
-unfolding written sign
-gain-fits (pos n) h = omega (arith, digits-under 10 2 n (omega arith) (omega arith))
-gain-fits (negsuc n) h = omega (arith, digits-under 10 2 (suc n) (omega arith) (omega arith))
+gain-fits z h = written-under 10 z 3 (digits-under 10 2 (natAbs z) (omega arith) (omega arith))
 
 cue-fits : (l : List ℕ) (a : Outcome Cue) → cueRule l 64 128 ≡ a → length (cueText a) ≤ 15
 unfolding cueText okText

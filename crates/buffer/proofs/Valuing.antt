@@ -2,11 +2,11 @@
 use mathlib.Core.Path.{_≡_, refl, sym, ap, _∙_}
 use mathlib.Core.Bool.{true, false}
 use mathlib.Core.List.{List, []}
-use Prim.Native.Nat.{ℕ, suc, _≤_}
+use Prim.Native.Nat.{ℕ, _≤_}
 use native.Mathlib.Omega.{arith}
 use borrow.Author.Needs.{needs}
 use borrow.Author.Tests.{le-leb}
-use lib.IntN.{ℤ, pos, negsuc}
+use lib.IntN.{ℤ, natAbs}
 use lib.ListN.{length}
 use Rattle.strlib.proofs.Pointing.{is-good}
 use Rattle.strlib.proofs.Refusing.{bool-case}
@@ -16,18 +16,17 @@ use Rattle.strlib.specs.declared.StrPtr.{StrPtr}
 use Rattle.strlib.specs.declared.StrAnswer.{StrAnswer}
 use Rattle.strlib.specs.declared.StrAnswer.the-variants.{Given, Refused}
 use Rattle.number.proofs.Counting.{digits-under}
-use Rattle.number.proofs.Ranging.{range-mag}
+use Rattle.number.proofs.Ranging.{range-mag, abs-mag}
+use Rattle.number.proofs.Writing.{written-under}
 use Rattle.number.proofs.RoundTrip.{round-trip, write-gave}
 use Rattle.number.specs.Limits.{isBase, inRange}
-use Rattle.number.specs.Written.{sign, written}
+use Rattle.number.specs.Written.{written}
 use Rattle.number.specs.Number.{writeRule}
 use Rattle.buffer.specs.Buffer.{grown, valueText}
 
 -- a number of the range has at most 11 digits, and a sign
 value-room : (z : ℤ) → inRange z ≡ true → length (written 10 z) ≤ 12
-unfolding written sign
-value-room (pos n) h = omega (arith, digits-under 10 10 n (omega arith) (omega (arith, range-mag (pos n) h)))
-value-room (negsuc n) h = omega (arith, digits-under 10 10 (suc n) (omega arith) (omega (arith, range-mag (negsuc n) h)))
+value-room z h = written-under 10 z 11 (digits-under 10 10 (natAbs z) (omega arith) (omega (arith, abs-mag z, range-mag z h)))
 
 -- so that each is written
 room-gives : (s : List ℕ) (z : ℤ) → length s ≡ 12 → inRange z ≡ true → writeRule s (pointer 0 0 12) z 10 .0 ≡ gives (sized (pointer 0 0 12) (length (written 10 z)))

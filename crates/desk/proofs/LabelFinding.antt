@@ -138,7 +138,7 @@ module _ (r s : RefT (List ℕ)) (kind number : ℕ) (q : LabelPlace) (e : label
   part-refused k f i = rw (← e, f) (part-counted r s 0 0 (omega arith) i)
 
 pub part-fits : (l : List ℕ) (kind number : ℕ) (q : LabelPlace) → labelPlaced q ≡ findLabelRule l kind number → (place n : ℕ) → q ≡ Found place n
-    → length l * 1 < 2 ^ 63 → Fits w64 (place + 1)
-part-fits l kind number q e place n f h = record { fits = omega (arith, place-within l kind number q e place n f) }
+    → length l * 1 < 2 ^ 63 → (m : ℕ) → m ≤ 9 → Fits w64 (place + m)
+part-fits l kind number q e place n f h m i = record { fits = omega (arith, place-within l kind number q e place n f) }
 
 pub ruleset part-laws = (needs, part-found, part-missing, part-refused, part-fits)

@@ -8,6 +8,7 @@ use Rattle.strlib.specs.declared.StrPtr.{StrPtr}
 use Rattle.strlib.specs.declared.StrAnswer.{StrAnswer}
 use Rattle.strlib.specs.declared.StrAnswer.the-variants.{Given, Refused}
 use Rattle.copying.specs.Copying.{copyAnswered}
+use Rattle.cutting.specs.declared.parts.DeskLabel.{DeskLabel}
 use Rattle.joining.specs.Resuming.{roundAnswered}
 use Rattle.copying.specs.declared.Wrote.{Wrote}
 use Rattle.copying.specs.declared.CopyAnswer.{CopyAnswer}
@@ -55,6 +56,6 @@ part-of p = refl
 
 pub label-of : (l : DeskLabel) → _≡_ {A = FlatLabel} (record { house = l .house; offset = l .place .start; length = l .place .length }) (flatLabel l)
 unfolding flatLabel
-label-of house p = refl
+label-of l = refl
 
 pub ruleset string-laws = (needs, string-given, string-refused, copied-given, copied-refused, round-given, round-refused, part-of, label-of)

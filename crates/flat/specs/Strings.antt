@@ -1,15 +1,13 @@
 -- The flat answers that are strings, copies and parts: a refusal is its number with 0 in every other field, and a value has the number 0. Assumes
 -- nothing.
 use Prim.Native.Nat.{ℕ}
-use mathlib.Core.Bool.{Bool, false, cond}
+use mathlib.Core.Bool.{false}
 use mathlib.Core.List.{List}
 use Rattle.strlib.specs.Pointer.{pointer}
 use Rattle.strlib.specs.Refusal.{Outcome, refused, gives}
 use Rattle.strlib.specs.declared.StrPtr.{StrPtr}
-use Rattle.cutting.specs.Cutting.{isBlank}
-use Rattle.cutting.specs.Part.{sliceCut}
-use Rattle.cutting.specs.declared.Cut.the-variants.{Trimmed}
 use Rattle.copying.specs.declared.Wrote.{Wrote}
+use Rattle.cutting.specs.declared.parts.DeskLabel.{DeskLabel}
 use Rattle.joining.specs.declared.Place.{Place}
 use Rattle.joining.specs.declared.Round.{Round}
 use Rattle.flat.specs.declared.strings.FlatString.{FlatString}

@@ -1,5 +1,6 @@
 // Strings, what a bounded copy gives, and parts of lent bytes.
 use copying::CopyAnswer;
+use cutting::DeskLabel;
 use joining::Place;
 use joining::RoundAnswer;
 use strlib::StrAnswer;

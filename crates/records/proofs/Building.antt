@@ -1,25 +1,19 @@
 -- Laws of a record that is written: blanks, over them the head and the name. Assumes nothing.
 use mathlib.Core.Path.{_≡_, ap, _∙_}
 use mathlib.Core.List.{List}
-use Prim.Native.Nat.{ℕ, zero, suc, _+_, _-_, _/_, _%_, _≤_}
+use Prim.Native.Nat.{ℕ, zero, suc, _-_, _/_, _%_, _≤_}
 use native.Mathlib.Nat.{sub-zero}
 use native.Mathlib.Omega.{arith}
 use lib.ListN.{length, set, take, drop, replicate, length-take}
-use lib.Seq.{drop-drop, take-all}
-use mir.Syntax.{w8}
-use mir.Val.{Fits}
+use lib.Seq.{drop-drop}
 use borrow.Author.Needs.{needs}
 use Rattle.strlib.proofs.Pointing.{text-front}
 use Rattle.strlib.specs.Pointer.{pointer, textOf}
 use Rattle.strlib.specs.Store.{put}
 use Rattle.strlib.specs.declared.StrPtr.{StrPtr}
-use Rattle.moving.proofs.Pasting.{pasted-in, pasted-length}
+use Rattle.moving.proofs.Pasting.{pasted-in}
 use Rattle.moving.specs.Moving.{pasted}
-use Rattle.records.proofs.Limits.{size-fits}
 use Rattle.records.specs.Record.{headSize, widthOf, padded, labelBytes, fittedBytes}
-
-pub low-byte : (n : ℕ) → Fits w8 (n % 256)
-low-byte n = record { fits = omega arith }
 
 fewer : (n m : ℕ) → drop {A = ℕ} n (replicate m 32) ≡ replicate (m - n) 32
 fewer zero m = rw sub-zero
@@ -46,20 +40,7 @@ module _ (kind number : ℕ) (name : List ℕ) where
         ey ∙ pasted-in headed headSize x (omega (arith, short))
         ∙ rw (← (drop-drop (length x) headSize headed), fewer (length x) 16, h, l, ← fitting)
 
-    bytes-long : length y ≡ 19
-    bytes-long = ap length ey ∙ pasted-length headed headSize x
+    pub record-put : (b b′ : List ℕ) (at : ℕ) → b′ ≡ pasted b at y → b′ ≡ pasted b at (fittedBytes kind number name)
+    record-put b b′ at e = e ∙ rw bytes-are
 
-    all-long : headSize + w ≡ 19
-    unfolding widthOf
-    all-long = omega arith
-
-    pub prefix-in : headSize + w ≤ length y
-    prefix-in = omega (arith, all-long, bytes-long)
-
-    pub prefix-long : length (take (headSize + w) y) ≡ headSize + w
-    prefix-long = rw length-take (omega (arith, all-long, bytes-long))
-
-    pub record-put : (b b′ : List ℕ) (at : ℕ) → b′ ≡ pasted b at (take (headSize + w) y) → b′ ≡ pasted b at (fittedBytes kind number name)
-    record-put b b′ at e = e ∙ rw (take-all (headSize + w) y (omega (arith, all-long, bytes-long)), bytes-are)
-
-pub ruleset build-laws = (needs, low-byte, pasted-length, size-fits, prefix-in, prefix-long, record-put)
+pub ruleset build-laws = (needs, record-put)

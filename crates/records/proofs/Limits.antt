@@ -41,9 +41,9 @@ module _ (kind : ℕ) where
   unfolding sizeOf
   size-of w e = rw e
 
-  pub size-fits : (w : ℕ) → w ≡ widthOf kind → Fits w64 (headSize + w)
+  pub size-fits : (m w : ℕ) → m ≤ 9 → w ≡ widthOf kind → Fits w64 (m + w)
   unfolding widthOf
-  size-fits w e = record { fits = omega arith }
+  size-fits m w h e = record { fits = omega arith }
 
   pub kind-is : (m : ℕ) → m ≡ limitOf kind → leb 1 m ≡ isKind kind
   unfolding isKind

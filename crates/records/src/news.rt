@@ -6,8 +6,8 @@ ghost use mathlib.Core.Path.{_≡_};
 ghost use Rattle.moving.specs.Moving.{pasted};
 ghost use Rattle.records.specs.Record.{newRefusal, fittedBytes};
 
-// Bytes of the largest record.
-const SIZE_MAX: usize = 19;
+// Bytes of a record.
+const SIZE: usize = 19;
 
 // What a record is refused with behind a good list with this room behind it, 0 for nothing.
 pub fn new_refusal(list: &[u8], room: usize, kind: u8, number: usize, name: &[u8]) -> u8
@@ -27,12 +27,11 @@ pub fn new_refusal(list: &[u8], room: usize, kind: u8, number: usize, name: &[u8
 pub fn write_record(buffer: &mut [u8], at: usize, kind: u8, number: usize, name: &[u8])
     ensures { λ _. ⌜ now (buffer .exit) ≡ pasted (now (buffer .entry)) at (fittedBytes kind number (now (name .entry))) ⌝ }
 {
-    let mut record = [b' '; SIZE_MAX];
+    let mut record = [b' '; SIZE];
     record[0] = kind;
     record[1] = (number / 256 % 256) as u8;
     record[2] = (number % 256) as u8;
-    let width = kinds::width_of(kind);
-    let fitting = strlib::text(name, StrPtr::full(0, width));
+    let fitting = strlib::text(name, StrPtr::full(0, kinds::width_of(kind)));
     moving::write_bytes(&mut record, kinds::HEAD, fitting);
-    moving::write_bytes(buffer, at, &record[..kinds::HEAD + width]);
+    moving::write_bytes(buffer, at, &record);
 }

@@ -1,20 +1,13 @@
 -- Laws of the exported calls: an answer made flat is the flat answer of the call's rule. Assumes nothing.
 use Prim.Native.Nat.{ℕ, zero, suc}
-use mathlib.Core.Path.{_≡_, refl, sym, ap, _∙_}
-use mathlib.Core.Bool.{true, false}
+use mathlib.Core.Path.{_≡_, refl, ap, _∙_}
 use mathlib.Core.List.{List}
 use lib.IntN.{ℤ}
-use lib.Seq.{take-length}
 use borrow.Author.Needs.{needs}
-use Rattle.strlib.specs.Pointer.{pointer, sized, textOf}
 use Rattle.strlib.specs.Refusal.{Outcome, outcome, Sought}
 use Rattle.strlib.specs.declared.StrPtr.{StrPtr}
 use Rattle.compare.specs.Compare.{compareRule}
 use Rattle.compare.specs.declared.Comparison.{Comparison}
-use Rattle.cutting.proofs.Bounding.{trimmed-none, trimmed-some}
-use Rattle.cutting.specs.Cutting.{trimmedLength, inBounds, cutOf}
-use Rattle.cutting.specs.Part.{whole, sliceCut}
-use Rattle.cutting.specs.declared.Cut.the-variants.{Trimmed}
 use Rattle.search.specs.Search.{Result}
 use Rattle.search.specs.declared.Match.{Match}
 use Rattle.search.specs.declared.Split.{Split}
@@ -24,7 +17,8 @@ use Rattle.translator.specs.Translate.{Translated}
 use Rattle.bursts.specs.declared.Carried.{Carried}
 use Rattle.desk.specs.Label.{namePart}
 use Rattle.desk.specs.declared.cue.Cue.{Cue}
-use Rattle.flat.specs.Strings.{flatWith, flatString, flatPart, flatLabel, deskLabel}
+use Rattle.cutting.specs.declared.parts.DeskLabel.{DeskLabel}
+use Rattle.flat.specs.Strings.{flatWith, flatString, flatPart, flatLabel}
 use Rattle.flat.specs.Finds.{flatMatch, flatSplit, flatNote, flatCharacter, flatName}
 use Rattle.flat.specs.Runs.{flatBurst}
 use Rattle.flat.specs.Values.{flatComparison, flatNumber, flatCue, flatSize, flatDone, done}
@@ -110,22 +104,8 @@ pub translate-is : (r : ℕ) (a : Outcome (Unit {0})) (s : List ℕ) (list : Lis
 translate-is r a s list count old new h t =
     record { answered = rw (h, t .answered) (said _); words = t .words }
 
--- ---- the desk label
-
-left : (xs : List ℕ) → sliceCut xs Trimmed .length ≡ trimmedLength xs
-unfolding sliceCut inBounds cutOf sized textOf whole pointer
-left xs = ap trimmedLength (take-length xs)
-
--- the trimmed production name's length tells whether that name is blank
-module _ (r : FlatLabel) (p : StrPtr) (production house : List ℕ) (e : p ≡ sliceCut production Trimmed) where
-  pub label-house : (q : StrPtr) → r ≡ flatLabel true q → p .length ≡ 0 → q ≡ sliceCut house Trimmed → r ≡ deskLabel production house
-  unfolding deskLabel
-  label-house q h z f = rw (trimmed-none production (sym (left production) ∙ ap (λ (p : StrPtr). p .length) (sym e) ∙ z), ← f) h
-
-  pub label-production : r ≡ flatLabel false p → (p .length ≡ 0 → ⊥) → r ≡ deskLabel production house
-  unfolding deskLabel
-  label-production h z =
-      rw (trimmed-some production (λ (n : trimmedLength production ≡ 0). z (ap (λ (p : StrPtr). p .length) e ∙ left production ∙ n)), ← e) h
+pub label-is : (r : FlatLabel) (l m : DeskLabel) → r ≡ flatLabel l → l ≡ m → r ≡ flatLabel m
+label-is = keeps flatLabel
 
 pub ruleset flat-laws = (
   needs,
@@ -145,6 +125,5 @@ pub ruleset flat-laws = (
   flat-with,
   written-is,
   translate-is,
-  label-house,
-  label-production,
+  label-is,
 )

@@ -6,9 +6,9 @@ use flat::FlatString;
 use strlib::StrPtr;
 ghost use mathlib.Core.Path.{_≡_};
 ghost use Rattle.cutting.specs.Cutting.{cutRule};
-ghost use Rattle.cutting.specs.Part.{sliceCut};
+ghost use Rattle.cutting.specs.Part.{sliceCut, labelPlace};
 ghost use Rattle.cutting.specs.declared.Cut.the-variants.{Relative, Counted, Between, Trimmed};
-ghost use Rattle.flat.specs.Strings.{flatString, flatPart, deskLabel};
+ghost use Rattle.flat.specs.Strings.{flatString, flatPart, flatLabel};
 
 #[no_mangle]
 pub extern "C" fn strlib_relative(store: &[u8], string: StrPtr, offset: usize) -> FlatString

@@ -27,13 +27,7 @@ fn add_refusal(buffer: &[u8], used: usize, kind: u8, number: usize, name: &[u8])
 }
 
 // Adds one record behind the list, which is the first `used` bytes of the buffer.
-pub fn add_label(
-    buffer: &mut [u8],
-    used: usize,
-    kind: u8,
-    number: usize,
-    name: &[u8],
-) -> LabelAdded
+pub fn add_label(buffer: &mut [u8], used: usize, kind: u8, number: usize, name: &[u8]) -> LabelAdded
     ensures { λ r. ⌜ (labelAdded r, now (buffer .exit)) ≡ addRule (now (buffer .entry)) used kind number (now (name .entry)) ⌝ }
 {
     let found = add_refusal(buffer, used, kind, number, name);

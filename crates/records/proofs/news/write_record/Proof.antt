@@ -17,8 +17,6 @@ write-record-spec =
     (λ c. search build-laws)
     (λ c κs. tt)
     (λ c. search build-laws)
-    (λ c. search build-laws)
-    (λ c. search build-laws)
     (λ c κs. tt)
     (λ c. search build-laws)
     (λ c. search build-laws))

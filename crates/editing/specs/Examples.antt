@@ -28,12 +28,12 @@ pub record Examples : Type 0 where
       ≡ (gives (pointer 0 23 25), twenty (bytes "AabcBCDEFGHIJKLMNOPQRST.."))
   -- 3.5, repstr: the second and third characters of '4321' removed; the bytes past the new length are as at entry
   pub removed : replaceRule (bytes "4321") (pointer 0 4 4) (pointer 1 2 3) (pointer 4 0 0) ≡ (gives (pointer 0 2 4), bytes "4121")
-  -- by place: of two equal characters the one that is pointed at; the same characters elsewhere are no part
+  -- by place: the same characters elsewhere are no part
   pub elsewhere : replaceRule (bytes "1234523bc") (pointer 0 5 5) (pointer 5 2 2) (pointer 7 2 2) ≡ (refused 4, bytes "1234523bc")
   -- put in at the end; in the unused room behind it is no part
   pub behind : replaceRule (bytes "4321..ab") (pointer 0 4 6) (pointer 4 0 0) (pointer 6 2 2) ≡ (gives (pointer 0 6 6), bytes "4321abab")
   pub unused : replaceRule (bytes "4321..ab") (pointer 0 4 6) (pointer 5 0 0) (pointer 6 2 2) ≡ (refused 4, bytes "4321..ab")
-  -- string 3 in string 1's room gives 5, and 4 goes before it
+  -- string 3 in string 1's room gives 5
   pub shared : replaceRule (bytes "4321..ab") (pointer 0 4 6) (pointer 1 2 2) (pointer 5 1 1) ≡ (refused 5, bytes "4321..ab")
   -- a source over the maximum gives 6, the destination as its own source 5
   pub over : reverseFromRule (bytes "4321..ab") (pointer 4 0 1) (pointer 6 2 2) ≡ (refused 6, bytes "4321..ab")

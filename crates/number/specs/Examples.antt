@@ -29,11 +29,10 @@ pub record Examples : Type 0 where
   pub highest : read 10 (front ++ (55 ∷ [])) ≡ gives (pos 34359738367)
   pub lowest : read 10 (45 ∷ front ++ (56 ∷ [])) ≡ gives (negsuc 34359738367)
   pub under : read 10 (45 ∷ front ++ (57 ∷ [])) ≡ refused 8
-  -- blanks and zeros in front are free
-  -- a blank behind the minus, a minus alone, blanks alone, nothing, a plus
+  -- a blank behind the minus, a plus
   pub minus-blank : read 10 (45 ∷ 32 ∷ 49 ∷ []) ≡ refused 7
   pub plus : read 10 (43 ∷ 49 ∷ []) ≡ refused 7
-  -- a foreign last character is 7, also behind digits that are out of range; a blank is foreign there
+  -- a foreign last character is 7, also behind digits that are out of range
   pub foreign : read 10 (front ++ (57 ∷ 57 ∷ 57 ∷ 120 ∷ [])) ≡ refused 7
   -- the digit of the base is none
   pub two-in-two : read 2 (49 ∷ 50 ∷ []) ≡ refused 7
@@ -41,7 +40,7 @@ pub record Examples : Type 0 where
   pub write : writeRule store (pointer 1 0 5) (pos 31) 10 ≡ (gives (pointer 1 2 5), 120 ∷ 51 ∷ 49 ∷ 51 ∷ 52 ∷ 53 ∷ 200 ∷ [])
   -- the destination is not read: neither its old length nor a byte over 127 in it counts
   pub not-read : writeRule store (pointer 1 6 6) (pos 31) 10 ≡ (gives (pointer 1 2 6), 120 ∷ 51 ∷ 49 ∷ 51 ∷ 52 ∷ 53 ∷ 200 ∷ [])
-  -- −15 in base 2 fills the room, −31 is one too long
+  -- −31 in base 2 is one too long for a room of five
   pub too-long : writeRule store (pointer 1 0 5) (negsuc 30) 2 ≡ (refused 6, store)
   -- 8 goes before 6
   pub out-of-range : writeRule store (pointer 1 0 5) (pos 34359738368) 10 ≡ (refused 8, store)

@@ -1,5 +1,6 @@
 //! Cutting, the parts of plain bytes, and the desk label.
 
+use super::place;
 use crate::oracle::cutting as oracle;
 use crate::support::rng::Rng;
 use crate::support::{raw, rounds, shapes, Always, Call, ROUNDS};
@@ -86,12 +87,6 @@ fn two_positions(rng: &mut Rng, length: usize) -> (usize, usize) {
     (pos1, pos2)
 }
 
-/// Where a part lies in the bytes that it is a part of.
-fn place(bytes: &[u8], part: &[u8]) -> Always<(usize, usize)> {
-    let offset = (part.as_ptr() as usize).wrapping_sub(bytes.as_ptr() as usize);
-    Always((offset, part.len()))
-}
-
 fn raw_part(answer: &Always<(usize, usize)>) -> PartAnswer {
     let Always((offset, length)) = *answer;
     PartAnswer { offset, length }
@@ -122,28 +117,28 @@ fn cuts_plain_bytes_as_the_document_says() {
         let relative = round.check(
             Call::new("relative_part", &bytes, offset),
             |b| Always(oracle::relative_part(b, offset)),
-            |b| place(b, strlib::relative_part(b, offset)),
+            |b| Always(place(b, strlib::relative_part(b, offset))),
             |b| unsafe { ffi::strlib_relative_part(b.as_mut_ptr(), b.len(), offset) },
             raw_part,
         );
         let counted = round.check(
             Call::new("counted_part", &bytes, (position, count)),
             |b| Always(oracle::counted_part(b, position, count)),
-            |b| place(b, strlib::counted_part(b, position, count)),
+            |b| Always(place(b, strlib::counted_part(b, position, count))),
             |b| unsafe { ffi::strlib_counted_part(b.as_mut_ptr(), b.len(), position, count) },
             raw_part,
         );
         let between = round.check(
             Call::new("between_part", &bytes, (pos1, pos2)),
             |b| Always(oracle::between_part(b, pos1, pos2)),
-            |b| place(b, strlib::between_part(b, pos1, pos2)),
+            |b| Always(place(b, strlib::between_part(b, pos1, pos2))),
             |b| unsafe { ffi::strlib_between_part(b.as_mut_ptr(), b.len(), pos1, pos2) },
             raw_part,
         );
         let trimmed = round.check(
             Call::new("trimmed_part", &bytes, ()),
             |b| Always(oracle::trimmed_part(b)),
-            |b| place(b, strlib::trimmed_part(b)),
+            |b| Always(place(b, strlib::trimmed_part(b))),
             |b| unsafe { ffi::strlib_trimmed_part(b.as_mut_ptr(), b.len()) },
             raw_part,
         );
@@ -184,7 +179,7 @@ fn shows_the_label_as_the_document_says() {
             |(production, house)| {
                 let label = strlib::desk_label(production, house);
                 let of_house = label.as_ptr() == house.as_ptr();
-                let Always(part) = place(if of_house { house } else { production }, label);
+                let part = place(if of_house { house } else { production }, label);
                 Always((of_house, part))
             },
             |(production, house)| unsafe {

@@ -1,5 +1,6 @@
 //! The label list.
 
+use super::place;
 use crate::oracle::desk as oracle;
 use crate::support::rng::Rng;
 use crate::support::{raw, rounds, Always, Call, ROUNDS};
@@ -134,11 +135,7 @@ fn labels_as_the_document_says() {
         let part = round.check(
             Call::new("label_name", &list, (kind, number)),
             |l| Always(oracle::label_name(l, kind, number)),
-            |l| {
-                let name = strlib::label_name(l, kind, number);
-                let offset = (name.as_ptr() as usize).wrapping_sub(l.as_ptr() as usize);
-                Always((offset, name.len()))
-            },
+            |l| Always(place(l, strlib::label_name(l, kind, number))),
             |l| unsafe { ffi::strlib_label_name(l.as_mut_ptr(), l.len(), kind, number) },
             |Always((offset, length))| PartAnswer {
                 offset: *offset,

@@ -7,6 +7,7 @@ mod copying;
 mod cues;
 mod cutting;
 mod editing;
+mod examples;
 mod exhaustive;
 mod labels;
 mod null;
@@ -26,4 +27,10 @@ fn laid_out(texts: &[&[u8]]) -> (Vec<u8>, Vec<StrPtr>) {
         store.extend_from_slice(text);
     }
     (store, strings)
+}
+
+/// Where a part lies in the bytes that it is a part of, and its length.
+fn place(bytes: &[u8], part: &[u8]) -> (usize, usize) {
+    let offset = (part.as_ptr() as usize).wrapping_sub(bytes.as_ptr() as usize);
+    (offset, part.len())
 }

@@ -115,11 +115,5 @@ module _ (rest : List ℕ) where
     split : recordBytes ++ drop (sizeOf (kindOf rest)) rest ≡ rest
     split = take-append-drop (sizeOf (kindOf rest)) rest
 
-    pub bytes-number : numberOf recordBytes ≡ numberOf rest
-    bytes-number = sym (number-front recordBytes (drop (sizeOf (kindOf rest)) rest) bytes-whole) ∙ ap numberOf split
-
-    pub bytes-name : nameIn recordBytes ≡ nameIn rest
-    bytes-name = sym (name-front recordBytes (drop (sizeOf (kindOf rest)) rest) bytes-whole) ∙ ap nameIn split
-
     pub bytes-refusal : (met : List ℕ) → behindRefusal met recordBytes ≡ behindRefusal met rest
     bytes-refusal met = sym (refusal-front recordBytes (drop (sizeOf (kindOf rest)) rest) bytes-whole met) ∙ ap (behindRefusal met) split

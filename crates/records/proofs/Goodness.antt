@@ -50,10 +50,6 @@ module _ (l : List ℕ) where
 -- ---- a record that passes has the first record's size, and lies in the list whole
 
 module _ (l : List ℕ) where
-  pub record-first : recordAt l 0 ≡ l
-  unfolding recordAt
-  record-first = rw (place-zero l)
-
   pub record-length : (k : ℕ) → length (recordAt l k) ≡ length l - placeOf l k
   unfolding recordAt
   record-length k = length-drop (placeOf l k) l

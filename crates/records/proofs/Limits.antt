@@ -16,7 +16,7 @@ use Rattle.strlib.proofs.Refusing.{and-both}
 use Rattle.strlib.specs.Pointer.{all}
 use Rattle.cutting.proofs.Bounding.{trimmed-le, trimmed-padded}
 use Rattle.cutting.specs.Cutting.{trimmedLength}
-use Rattle.records.specs.Record.{headSize, widthOf, sizeOf, limitOf, isKind, isNumberOf, isName, earlier, padded}
+use Rattle.records.specs.Record.{headSize, widthOf, sizeOf, limitOf, isNumberOf, isName, earlier, padded}
 
 -- ---- kinds and numbers
 
@@ -44,10 +44,6 @@ module _ (kind : ℕ) where
   pub size-fits : (m w : ℕ) → m ≤ 9 → w ≡ widthOf kind → Fits w64 (m + w)
   unfolding widthOf
   size-fits m w h e = record { fits = omega arith }
-
-  pub kind-is : (m : ℕ) → m ≡ limitOf kind → leb 1 m ≡ isKind kind
-  unfolding isKind
-  kind-is m e = rw e
 
   pub number-is : (number m : ℕ) (b : Bool) → m ≡ limitOf kind → b ≡ (leb 1 number && leb number m) → b ≡ isNumberOf kind number
   unfolding isNumberOf

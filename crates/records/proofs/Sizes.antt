@@ -53,9 +53,6 @@ module _ (l : List ℕ) where
   pub place-begins : (k : ℕ) → k < records l → placeOf l k < length l
   place-begins k h = omega (arith, place-next k (records l) h, records-least)
 
-  pub records-some : 0 < records l → 0 < length l
-  records-some h = omega (arith, place-begins 0 h)
-
 pub records-nil : records [] ≡ 0
 unfolding records sizeOf widthOf kindOf
 records-nil = refl

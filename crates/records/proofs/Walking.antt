@@ -25,31 +25,6 @@ last-le f (suc n) = go (f n) (last-le f n)
     go true h = omega arith
     go false h = omega arith
 
--- none passes exactly where it is 0
-pub last-none : (f : ℕ → Bool) (n : ℕ) → lastOf f n ≡ 0 → (k : ℕ) → k < n → f k ≡ false
-unfolding lastOf
-last-none f zero e k h = absurd (omega arith)
-last-none f (suc n) e k h = go (f n) refl e (λ z. last-none f n z) k h
-  where
-    go : (b : Bool) → f n ≡ b → cond b (suc n) (lastOf f n) ≡ 0 → (lastOf f n ≡ 0 → (k : ℕ) → k < n → f k ≡ false) → (k : ℕ) → k < suc n → f k ≡ false
-    go true p q r = absurd (omega arith)
-    go false p q r = below-suc (λ k. f k ≡ false) n (r q) p
-
-pub none-last : (f : ℕ → Bool) (n : ℕ) → ((k : ℕ) → k < n → f k ≡ false) → lastOf f n ≡ 0
-unfolding lastOf
-none-last f zero h = refl
-none-last f (suc n) h = rw (h n (omega arith)) (none-last f n (λ k i. h k (omega arith)))
-
--- the one that is found passes
-pub last-passes : (f : ℕ → Bool) (n k : ℕ) → lastOf f n ≡ suc k → f k ≡ true
-unfolding lastOf
-last-passes f zero k e = absurd (omega arith)
-last-passes f (suc n) k e = go (f n) refl e (λ z. last-passes f n k z)
-  where
-    go : (b : Bool) → f n ≡ b → cond b (suc n) (lastOf f n) ≡ suc k → (lastOf f n ≡ suc k → f k ≡ true) → f k ≡ true
-    go true p q r = let j : k ≡ n = omega arith in rw j p
-    go false p q r = r q
-
 -- a loop that looks from the last to the first: what is left has the same last
 module _ (f : ℕ → Bool) (n k : ℕ) (e : lastOf f n ≡ lastOf f k) where
   seek-last : 0 < k → lastOf f k ≡ cond (f (k - 1)) k (lastOf f (k - 1))

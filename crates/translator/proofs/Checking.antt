@@ -132,7 +132,7 @@ module _ (ss : List (List ℕ)) (ws : List ℕ) (holds : Represents ss ws) (few 
   pub table-finds : (t : List ℕ) (host : StrPtr) → Host t host → noteIn (runRule t host ws) ≡ gives (plainSearch ss (textOf t host))
   unfolding readable
   table-finds t host h =
-      rw (run-plain t host ws (h .fits) (h .good) (h .plain) table-sized, run-ends ss ws (textOf t host) holds few plain (h .read) .ran)
+      rw (run-plain t host ws (h .fits) (h .good) (h .plain) table-sized, run-ends ss ws (textOf t host) holds few plain (h .plain) .ran)
 
   pub table-early : (t : List ℕ) (host : StrPtr) (k n : ℕ) (r : Result) → Sure ss (take k (textOf t host)) → runRule t host ws ≡ gives (r, n) → n ≤ k + 1
   table-early t host k n r sure e =

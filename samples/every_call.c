@@ -140,7 +140,7 @@ static void translated(const char *call, uint8_t refusal) {
     printf(REFUSAL ", other words %s\n", call, refusal, kept ? "kept" : "lost");
 }
 
-/* every search, over a list and a host; by 01 and 02 a run that reads 1 in example F might read 2, no other one more */
+/* every search, over a list and a host; 01 and W12 settle how many characters the run reads, but for F: 1 or 2 */
 static void find(const char *example, strlib_ptr host, strlib_list list) {
     printf("example %s\n", example);
     match(CALL(strlib_search(store, used, host, list)));

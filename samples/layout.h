@@ -1,6 +1,5 @@
 /* Where every field of every struct of strlib.h stands, and its type, on x86-64: as in the library's structs of the
- * same fields (#[repr(C)] in crates/flat, strlib, copying and bursts) and in those of rust/src. The limits are the
- * library's too. */
+ * same fields (#[repr(C)] in crates/, most of them in flat) and in those of rust/src. So are the limits. */
 #ifndef LAYOUT_H
 #define LAYOUT_H
 

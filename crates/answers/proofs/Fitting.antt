@@ -27,9 +27,9 @@ cue-fits : (l : List ℕ) (a : Outcome Cue) → cueRule l 64 128 ≡ a → lengt
 unfolding cueText okText
 cue-fits l (gives c) e =
     let g = cue-given l 64 128 c e in
-    let m : length (digits 10 (c .microphone)) ≤ 2 = digits-under 10 1 (c .microphone) (omega arith) (omega (arith, g .0 .1)) in
-    let s : length (digits 10 (c .loudspeaker)) ≤ 3 = digits-under 10 2 (c .loudspeaker) (omega arith) (omega (arith, g .1 .0 .1)) in
-    simp length-append (omega (arith, m, s, gain-fits (c .gain) (gain-small (c .gain) (g .1 .1))))
+    let m : length (digits 10 (c .microphone)) ≤ 2 = digits-under 10 1 (c .microphone) (omega arith) (omega (arith, g .mic)) in
+    let s : length (digits 10 (c .loudspeaker)) ≤ 3 = digits-under 10 2 (c .loudspeaker) (omega arith) (omega (arith, g .lsp)) in
+    simp length-append (omega (arith, m, s, gain-fits (c .gain) (gain-small (c .gain) (g .gain))))
 cue-fits l (refused k) e =
     let d : length (digits 10 k) ≤ 2 = digits-under 10 1 k (omega arith) (omega (arith, cue-refused l 64 128 k e)) in
     simp length-append (omega arith)

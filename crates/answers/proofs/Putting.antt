@@ -32,7 +32,7 @@ value-is z e = rw e
 -- a cue that is given has a gain that can be written
 pub rule-writable : (line : List ℕ) (a : Outcome Cue) → a ≡ cueRule line 64 128 → writable a ≡ true
 unfolding writable
-rule-writable line (gives c) e = gain-in-range (c .gain) (cue-given line 64 128 c (sym e) .1 .1)
+rule-writable line (gives c) e = gain-in-range (c .gain) (cue-given line 64 128 c (sym e) .gain)
 rule-writable line (refused k) e = refl
 
 pub ok-is : (b b1 b2 b3 b4 : List ℕ) (n n1 n2 n3 n4 : ℕ) (c : Cue) (g : ℤ) → inRange (c .gain) ≡ true → g ≡ c .gain

@@ -17,7 +17,7 @@ use Rattle.strlib.proofs.Refusing.{bool-case, ruled-gave}
 use Rattle.strlib.specs.Pointer.{textOf}
 use Rattle.strlib.specs.Refusal.{gives}
 use Rattle.strlib.specs.declared.StrPtr.{StrPtr}
-use Rattle.charset.specs.Bits.{bit, among, Turns, TabledBits}
+use Rattle.charset.specs.Bits.{bit, among, Turns, TurnsBits, TabledBits}
 use Rattle.charset.specs.Rule.{blockRefusal, tablesRule, setRefusal, charactersRule}
 use Rattle.charset.specs.Sets.{maskFits, turned, turnedAll, turnedAt, inTables}
 use Rattle.charset.proofs.Answering.{block-passed, set-passed}
@@ -164,7 +164,7 @@ mask-small : (mask : ℕ) → maskFits mask ≡ true → mask < 2 ^ 64
 unfolding maskFits
 mask-small mask e = omega (arith, ltb-true mask (2 ^ 36) e)
 
-pub tables-turn : (on : Bool) (block : List ℕ) (mask : ℕ) → tablesRule on block mask .0 ≡ gives tt → Turns on mask (λ c. true) block (tablesRule on block mask .1)
+tables-turn : (on : Bool) (block : List ℕ) (mask : ℕ) → tablesRule on block mask .0 ≡ gives tt → Turns on mask (λ c. true) block (tablesRule on block mask .1)
 unfolding tablesRule
 tables-turn on block mask e =
     let g = ruled-gave (blockRefusal block mask) tt tt (turnedAll on mask block) block e in
@@ -179,7 +179,7 @@ tables-turn on block mask e =
       others = λ c y. absurd (true≢false y);
     })
 
-pub characters-turn : (on : Bool) (s : List ℕ) (p : StrPtr) (block : List ℕ) (mask : ℕ) → charactersRule on s p block mask .0 ≡ gives tt
+characters-turn : (on : Bool) (s : List ℕ) (p : StrPtr) (block : List ℕ) (mask : ℕ) → charactersRule on s p block mask .0 ≡ gives tt
     → Turns on mask (among (textOf s p)) block (charactersRule on s p block mask .1)
 unfolding charactersRule
 characters-turn on s p block mask e =
@@ -200,7 +200,7 @@ characters-turn on s p block mask e =
 
 pub tabled-bits : TabledBits
 unfolding inTables maskFits
-tabled-bits block mask x small =
+tabled-bits block mask x fits =
     let w : ℕ = getD block x 0 in
     record {
       is-tabled = λ e.
@@ -209,8 +209,8 @@ tabled-bits block mask x small =
           let m : bit (r .0) mask ≡ 1 = omega (arith, bit-le (r .0) mask, bit-le (r .0) w) in
           record {
             table = r .0;
-            among36 = either 36 (r .0)
-                (λ (h : 36 ≤ r .0). absurd (omega (arith, bit-small (r .0) 36 mask h (ltb-true mask (2 ^ 36) small))))
+            small = either 36 (r .0)
+                (λ (h : 36 ≤ r .0). absurd (omega (arith, bit-small (r .0) 36 mask h (ltb-true mask (2 ^ 36) fits))))
                 (λ (h : r .0 < 36). h);
             named = m;
             has = omega (arith, bit-le (r .0) w);
@@ -222,3 +222,6 @@ tabled-bits block mask x small =
           let z : bitAnd w mask ≡ 0 = omega (arith, ltb-false 0 (bitAnd w mask) e) in
           absurd (omega (arith, rw z at a, bit-small (t .table) 0 0 (omega arith) (omega arith))));
     }
+
+pub turns-bits : TurnsBits
+turns-bits on s p block mask = record { tables = tables-turn on block mask; characters = characters-turn on s p block mask }

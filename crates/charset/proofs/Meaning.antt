@@ -7,7 +7,7 @@ use mathlib.Core.List.{List, [], _∷_}
 use native.Mathlib.Omega.{arith}
 use lib.ListN.{length, getD}
 use Rattle.strlib.specs.Refusal.{Sought, nowhere, at}
-use Rattle.charset.specs.Nearest.{tabledAt, precedes, Nearest, Untabled, FindLaw}
+use Rattle.charset.specs.Nearest.{tabledAt, precedes, Nearest, Untabled, FindLaw, FindLaws}
 use Rattle.charset.specs.Rule.{orElse, chosen, foundAt, foundFrom}
 use Rattle.charset.specs.Sets.{inTables}
 use Rattle.charset.specs.declared.CharAt.{CharAt}
@@ -118,8 +118,8 @@ module _ (block : List ℕ) (mask : ℕ) where
         go false f g = omega arith
         go true f g = omega arith
 
-    pub find-law : FindLaw last block mask host
-    find-law =
+    law-of : FindLaw last block mask host
+    law-of =
         record {
           found-is = λ x q. nearest x (rw q at (best last 1 host));
           is-found = λ x a. is-found x a (foundFrom last block mask 1 host) (best last 1 host);
@@ -138,3 +138,6 @@ module _ (block : List ℕ) (mask : ℕ) where
         is-nothing : Untabled block mask host → (r : Sought CharAt) → Best last 1 host r → r ≡ nowhere
         is-nothing n nowhere b = refl
         is-nothing n (at y) b = absurd (n (y .position) (nearest y b .tabled))
+
+pub find-law : FindLaws
+find-law last block mask host = law-of block mask last host

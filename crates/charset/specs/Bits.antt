@@ -5,6 +5,10 @@ use mathlib.Core.Bool.{Bool, true, false, cond, _||_}
 use mathlib.Core.List.{List, [], _∷_}
 use lib.Dec.{eqb}
 use lib.ListN.{length, getD}
+use Rattle.strlib.specs.Pointer.{textOf}
+use Rattle.strlib.specs.Refusal.{gives}
+use Rattle.strlib.specs.declared.StrPtr.{StrPtr}
+use Rattle.charset.specs.Rule.{tablesRule, charactersRule}
 use Rattle.charset.specs.Sets.{maskFits, inTables}
 
 -- bit b of a word, counted from the lowest
@@ -26,10 +30,19 @@ pub record Turns (on : Bool) (mask : ℕ) (meant : ℕ → Bool) (old new : List
   pub high : (c b : ℕ) → 36 ≤ b → b < 64 → bit b (getD new c 0) ≡ bit b (getD old c 0)
   pub others : (c : ℕ) → meant c ≡ false → getD new c 0 ≡ getD old c 0
 
+-- clear and fill turn every character's bits, add and remove those of the string's characters: of any call that is not refused
+pub record WritersTurn (on : Bool) (s : List ℕ) (p : StrPtr) (block : List ℕ) (mask : ℕ) : Type 0 where
+  pub tables : tablesRule on block mask .0 ≡ gives tt → Turns on mask (λ c. true) block (tablesRule on block mask .1)
+  pub characters : charactersRule on s p block mask .0 ≡ gives tt
+      → Turns on mask (among (textOf s p)) block (charactersRule on s p block mask .1)
+
+abbrev pub TurnsBits : Type 0
+TurnsBits = (on : Bool) (s : List ℕ) (p : StrPtr) (block : List ℕ) (mask : ℕ) → WritersTurn on s p block mask
+
 -- the character x is in a table that the mask names
 pub record Tabled (block : List ℕ) (mask x : ℕ) : Type 0 where
   pub table : ℕ
-  pub among36 : table < 36
+  pub small : table < 36
   pub named : bit table mask ≡ 1
   pub has : bit table (getD block x 0) ≡ 1
 

@@ -37,3 +37,7 @@ pub record FindLaw (last : Bool) (block : List ℕ) (mask : ℕ) (host : List �
   pub is-found : (x : CharAt) → Nearest last block mask host x → foundFrom last block mask 1 host ≡ at x
   pub nothing-is : foundFrom last block mask 1 host ≡ nowhere → Untabled block mask host
   pub is-nothing : Untabled block mask host → foundFrom last block mask 1 host ≡ nowhere
+
+-- of any block, mask and host
+abbrev pub FindLaws : Type 0
+FindLaws = (last : Bool) (block : List ℕ) (mask : ℕ) (host : List ℕ) → FindLaw last block mask host

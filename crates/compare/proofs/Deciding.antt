@@ -17,7 +17,7 @@ use borrow.Author.Needs.{needs}
 use borrow.Author.Tests.{ltb-true, ltb-false, eqb-true, eqb-false, eq-eqb, ne-eqb, lt-ltb, le-ltb}
 use Rattle.strlib.proofs.Refusing.{bool-case}
 use Rattle.compare.specs.Order.{orderZ, orderN}
-use Rattle.compare.specs.Compare.{pairs, lengthDecides, translated, orderAt, unequalFrom, FirstUnequal, decided, decision}
+use Rattle.compare.specs.Compare.{pairs, lengthDecides, translated, orderAt, unequalFrom, FirstUnequal, SplitsFirst, decided, decision}
 
 getD-any : (l : List ℕ) (i d e : ℕ) → i < length l → getD l i d ≡ getD l i e
 getD-any [] i d e h = absurd (not-suc-le-zero h)
@@ -96,7 +96,7 @@ from-is x y t i (suc k) h = go (eqb (orderAt x y t i) 1) refl (λ e. from-is x y
     go true e f = let j : i + suc k ≡ suc i + k = omega arith in rw j (f (eqb-true (orderAt x y t i) 1 e))
     go false e f = record { within = omega arith; equal = h; unequal = λ l. eqb-false (orderAt x y t i) 1 e }
 
-pub first-unequal-is : (x y : List ℕ) (t : ℤ) (n : ℕ) → FirstUnequal x y t n (unequalFrom x y t 0 n)
+pub first-unequal-is : SplitsFirst
 first-unequal-is x y t n = rw zero-add at (from-is x y t 0 n (λ j l. absurd (omega arith)))
 
 -- ---- the decision

@@ -57,6 +57,9 @@ pub record FirstUnequal (xs ys : List ℕ) (t : ℤ) (n d : ℕ) : Type 0 where
   pub equal : (i : ℕ) → i < d → orderAt xs ys t i ≡ 1
   pub unequal : d < n → orderAt xs ys t d ≡ 1 → ⊥
 
+abbrev pub SplitsFirst : Type 0
+SplitsFirst = (xs ys : List ℕ) (t : ℤ) (n : ℕ) → FirstUnequal xs ys t n (unequalFrom xs ys t 0 n)
+
 -- what decides, where the first unequal pair of n has the index d: that pair, or exact style's length rule, or nothing
 unfoldable pub decided : List ℕ → List ℕ → ℕ → ℤ → ℕ → ℕ → Decision
 decided xs ys style t n d =

@@ -37,7 +37,7 @@ pub record Examples : Type 0 where
   -- shorter than the old length, without and with padding
   pub short : copyRule (letters (bytes ".....")) (pointer 5 3 5) (pointer 0 1 1) false ≡ (to (pointer 5 1 5) true, letters (bytes "a...."))
   pub padded : copyRule (letters (bytes ".....")) (pointer 5 3 5) (pointer 0 1 1) true ≡ (to (pointer 5 3 5) true, letters (bytes "a  .."))
-  -- a source in the unused end of the room gives 5, one directly behind the room does not; 1 goes before 5
+  -- a source in the unused end of the room gives 5, one directly before the room does not; 1 goes before 5
   pub shared : copyRule (letters (bytes ".....")) (pointer 4 0 5) (pointer 8 1 1) false ≡ (refused 5, letters (bytes "....."))
   pub beside : copyRule (letters (bytes ".....")) (pointer 5 0 2) (pointer 0 5 5) false ≡ (to (pointer 5 2 2) false, letters (bytes "ab..."))
   pub one-first : copyRule (letters (bytes ".....")) (pointer 5 0 6) (pointer 8 1 1) false ≡ (refused 1, letters (bytes "....."))

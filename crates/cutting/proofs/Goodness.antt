@@ -9,11 +9,10 @@ use lib.ListN.{length}
 use Rattle.strlib.proofs.Refusing.{outcome-gave}
 use Rattle.strlib.proofs.Pointing.{good-is, good-part, good-sized, text-length}
 use Rattle.strlib.specs.Pointer.{goodIn, textOf}
-use Rattle.strlib.specs.Refusal.{gives}
 use Rattle.strlib.specs.declared.StrPtr.{StrPtr}
 use Rattle.cutting.proofs.Bounding.{trimmed-le}
 use Rattle.cutting.proofs.Making.{relative-is, counted-in, between-in, CutPassed, cut-passed}
-use Rattle.cutting.specs.Cutting.{trimmedLength, second, inBounds, cutOf, cutRefusal, cutRule}
+use Rattle.cutting.specs.Cutting.{trimmedLength, second, inBounds, cutOf, cutRefusal, cutRule, CutGood}
 use Rattle.cutting.specs.declared.Cut.{Cut}
 use Rattle.cutting.specs.declared.Cut.the-variants.{Relative, Counted, Between, Trimmed}
 
@@ -35,7 +34,7 @@ part-good s p Trimmed g b =
     let l = good-is (length s) p g .0 in
     good-sized (length s) p (trimmedLength (textOf s p)) g (omega (arith, text-length s p g))
 
-pub cut-good : (s : List ℕ) (p : StrPtr) (c : Cut) (q : StrPtr) → cutRule s p c ≡ gives q → goodIn (length s) q ≡ true
+pub cut-good : CutGood
 unfolding cutRule
 cut-good s p c q e =
     let o = outcome-gave (cutRefusal s p c) (cutOf s p c) q e in

@@ -1,11 +1,12 @@
 -- The four cuts: 01, "Cutting". Assumes nothing.
 use Prim.Native.Nat.{ℕ, suc, _+_, _-_}
+use mathlib.Core.Path.{_≡_}
 use mathlib.Core.Bool.{Bool, true, cond, _&&_}
 use mathlib.Core.List.{List, [], _∷_}
 use lib.Dec.{leb, eqb}
 use lib.ListN.{length}
 use Rattle.strlib.specs.Pointer.{sized, partOf, storeFits, goodIn, textOf, all, readable}
-use Rattle.strlib.specs.Refusal.{Outcome, first, outcome}
+use Rattle.strlib.specs.Refusal.{Outcome, first, outcome, gives}
 use Rattle.strlib.specs.declared.StrPtr.{StrPtr}
 use Rattle.cutting.specs.declared.Cut.{Cut}
 use Rattle.cutting.specs.declared.Cut.the-variants.{Relative, Counted, Between, Trimmed}
@@ -19,17 +20,17 @@ unfoldable pub trimmedLength : List ℕ → ℕ
 trimmedLength [] = 0
 trimmedLength (x ∷ xs) = cond (isBlank (x ∷ xs)) 0 (suc (trimmedLength xs))
 
--- pos2 = 0 means length + 1
+-- of a string of n characters: pos2 = 0 means n + 1
 unfoldable pub second : ℕ → ℕ → ℕ
-second length pos2 = cond (eqb pos2 0) (length + 1) pos2
+second n pos2 = cond (eqb pos2 0) (n + 1) pos2
 
 -- 1 ≤ p ≤ maximum + 1 and n ≤ maximum − p + 1
 unfoldable pub countedIn : ℕ → ℕ → ℕ → Bool
 countedIn maximum p n = (leb 1 p && leb p (maximum + 1)) && leb n (maximum + 1 - p)
 
--- 1 ≤ pos1 ≤ pos2 ≤ length + 1
+-- 1 ≤ pos1 ≤ pos2 ≤ n + 1
 unfoldable pub betweenIn : ℕ → ℕ → ℕ → Bool
-betweenIn length pos1 pos2 = (leb 1 pos1 && leb pos1 (second length pos2)) && leb (second length pos2) (length + 1)
+betweenIn n pos1 pos2 = (leb 1 pos1 && leb pos1 (second n pos2)) && leb (second n pos2) (n + 1)
 
 -- the bounds of each cut, and the part that it gives
 unfoldable pub inBounds : StrPtr → Cut → Bool
@@ -59,3 +60,7 @@ cutRefusal s p c = first (cutChecks s p c)
 
 unfoldable pub cutRule : List ℕ → StrPtr → Cut → Outcome StrPtr
 cutRule s p c = outcome (cutRefusal s p c) (cutOf s p c)
+
+-- a pointer that a cut gives is good for the store that it was cut from
+abbrev pub CutGood : Type 0
+CutGood = (s : List ℕ) (p : StrPtr) (c : Cut) (q : StrPtr) → cutRule s p c ≡ gives q → goodIn (length s) q ≡ true

@@ -1,7 +1,7 @@
 -- Read-only cuts of plain slices, and the desk label: 01, "Cutting". Assumes nothing.
 use Prim.Native.Nat.{ℕ, _+_}
 use mathlib.Core.Path.{_≡_}
-use mathlib.Core.Bool.{cond}
+use mathlib.Core.Bool.{Bool, cond}
 use mathlib.Core.List.{List}
 use lib.ListN.{length}
 use denote.Ref.{RefT, now, ptr}
@@ -26,11 +26,15 @@ whole xs = pointer 0 (length xs) (length xs)
 unfoldable pub sliceCut : List ℕ → Cut → StrPtr
 sliceCut xs c = cond (inBounds (whole xs) c) (cutOf xs (whole xs) c) (pointer 0 0 0)
 
--- the name that the desk shows: the production name, or the house name where that is all blanks or empty
+-- the desk shows the production name, or the house name where the production name is all blanks or empty
+abbrev pub showsHouse : List ℕ → Bool
+showsHouse production = isBlank production
+
+-- the name that it shows
 unfoldable pub shown : RefT (List ℕ) → RefT (List ℕ) → RefT (List ℕ)
-shown production house = cond (isBlank (now production)) house production
+shown production house = cond (showsHouse (now production)) house production
 
 -- where its label lies: in the house name or in the production name, and where in it
 unfoldable pub labelPlace : List ℕ → List ℕ → DeskLabel
 labelPlace production house =
-    record { house = isBlank production; place = sliceCut (cond (isBlank production) house production) Trimmed }
+    record { house = showsHouse production; place = sliceCut (cond (showsHouse production) house production) Trimmed }

@@ -14,9 +14,8 @@ use Rattle.number.specs.Text.{numberOf}
 use Rattle.strlib.proofs.Refusing.{bool-case, and-both, passed, outcome-no, outcome-gave, outcome-is, first-under}
 use Rattle.strlib.proofs.Pointing.{fits-is}
 use Rattle.strlib.specs.Pointer.{storeFits}
-use Rattle.strlib.specs.Refusal.{refused, gives}
-use Rattle.desk.specs.declared.cue.Cue.{Cue}
-use Rattle.desk.specs.Cue.{isIndex, isGain, micWord, lspWord, gainWord, cueChecks, cueRefusal, cueOf, cueRule}
+use Rattle.strlib.specs.Refusal.{refused}
+use Rattle.desk.specs.Cue.{isIndex, isGain, micWord, lspWord, gainWord, cueChecks, cueRefusal, cueOf, cueRule, CueGiven}
 
 index-in : (size : ℕ) (z : ℤ) → isIndex size z ≡ true → (1 ≤ natAbs z) × (natAbs z ≤ size)
 unfolding isIndex
@@ -35,15 +34,14 @@ given line mics lsps e =
     let p = passed (cueChecks line mics lsps) refl e .1 .1 .1 .1 .1 .1 .1 .1 .1 .1 .1 .1 in
     record { microphone = p .0; loudspeaker = p .1 .0; gain = p .1 .1 .0 }
 
-pub cue-given : (line : List ℕ) (mics lsps : ℕ) (c : Cue) → cueRule line mics lsps ≡ gives c
-    → ((1 ≤ c .microphone) × (c .microphone ≤ mics)) × (((1 ≤ c .loudspeaker) × (c .loudspeaker ≤ lsps)) × (isGain (c .gain) ≡ true))
+pub cue-given : CueGiven
 unfolding cueRule cueOf
 cue-given line mics lsps c e =
     let n = numberOf 10 (micWord line) in
     let m = numberOf 10 (lspWord line) in
     let g = outcome-gave (cueRefusal line mics lsps) (cueOf n m (numberOf 10 (gainWord line))) c e in
     let p = given line mics lsps (g .0) in
-    rw (← (g .1)) (index-in mics n (p .microphone), (index-in lsps m (p .loudspeaker), p .gain))
+    rw (← (g .1)) (record { mic = index-in mics n (p .microphone); lsp = index-in lsps m (p .loudspeaker); gain = p .gain })
 
 -- a gain is within the range of numbers, and 960 at most whatever its sign
 pub gain-in-range : (z : ℤ) → isGain z ≡ true → inRange z ≡ true

@@ -18,7 +18,7 @@ use Rattle.moving.specs.Moving.{pasted}
 use Rattle.records.proofs.Bytes.{label-length, fitted-is}
 use Rattle.records.proofs.Checking.{Writable, writable}
 use Rattle.records.proofs.Limits.{in-range, earlier-none, earlier-found, earlier-zero}
-use Rattle.records.specs.Record.{sizeOf, earlier, listRefusal, newRefusal, labelBytes, fittedBytes}
+use Rattle.records.specs.Record.{recordSize, earlier, listRefusal, newRefusal, labelBytes, fittedBytes}
 use Rattle.desk.proofs.LabelReading.{answered-good, answered-refused}
 use Rattle.desk.specs.Label.{readLabelsRule, labelCounted, addRefusal, addRule}
 use Rattle.desk.specs.declared.label.read.LabelCount.{LabelCount}
@@ -74,13 +74,13 @@ add-size b b′ n kind number name e = rw e (pasted-length b n (fittedBytes kind
 module _ (b : List ℕ) (n kind number : ℕ) (name : List ℕ) (k : ℕ) (e : k ≡ addRefusal b n kind number name) where
   pub add-refused : (k ≡ 0 → ⊥) → (refused k, b) ≡ addRule b n kind number name
   unfolding addRule
-  add-refused h = ruled-no k (addRefusal b n kind number name) e (n + sizeOf kind) (put b n (labelBytes kind number name)) b h
+  add-refused h = ruled-no k (addRefusal b n kind number name) e (n + recordSize kind) (put b n (labelBytes kind number name)) b h
 
-  module _ (z : k ≡ 0) (size : ℕ) (es : size ≡ sizeOf kind) where
+  module _ (z : k ≡ 0) (size : ℕ) (es : size ≡ recordSize kind) where
     a : Adding b n kind number name
     a = adding b n kind number name (sym e ∙ z)
 
-    room : n + sizeOf kind ≤ length b
+    room : n + recordSize kind ≤ length b
     room = omega (arith, a .within, a .new .roomy)
 
     pub add-fits : length b * 1 < 2 ^ 63 → Fits w64 (n + size)
@@ -93,6 +93,6 @@ module _ (b : List ℕ) (n kind number : ℕ) (name : List ℕ) (k : ℕ) (e : k
         let f : fittedBytes kind number name ≡ labelBytes kind number name = fitted-is kind number name (a .new .short) (omega arith) in
         let r : b′ ≡ put b n (labelBytes kind number name) =
         q ∙ ap (pasted b n) f ∙ pasted-in b n (labelBytes kind number name) (omega (arith, room, label-length kind number name (a .new .short))) in
-        ruled-yes k (addRefusal b n kind number name) e (n + size) (n + sizeOf kind) b′ (put b n (labelBytes kind number name)) b z (rw es) r
+        ruled-yes k (addRefusal b n kind number name) e (n + size) (n + recordSize kind) b′ (put b n (labelBytes kind number name)) b z (rw es) r
 
 pub ruleset add-laws = (needs, add-size, add-refused, add-fits, add-done)

@@ -21,7 +21,7 @@ use Rattle.records.proofs.Goodness.{good-passes, record-length, record-place, p
 use Rattle.records.proofs.Likeness.{record-of-le}
 use Rattle.records.proofs.Limits.{earlier-none, earlier-found, earlier-zero}
 use Rattle.records.proofs.Sizes.{size-width, place-begins}
-use Rattle.records.specs.Record.{headSize, sizeOf, kindOf, nameIn, placeOf, recordAt, records, recordOf, earlier, listRefusal, keyRefusal}
+use Rattle.records.specs.Record.{headSize, recordSize, kindOf, nameIn, placeOf, recordAt, records, recordOf, earlier, listRefusal, keyRefusal}
 use Rattle.desk.proofs.LabelReading.{answered-good, answered-refused}
 use Rattle.desk.specs.Label.{readLabelsRule, labelCounted, nameOf, findLabelRule, labelPlaced, namePart}
 use Rattle.desk.specs.LabelInner.{Counted}
@@ -97,7 +97,7 @@ module _ (l : List ℕ) (g : listRefusal l ≡ 0) where
   pub name-within : (k : ℕ) → k < records l → placeOf l k + headSize + trimmedLength (nameIn (recordAt l k)) ≤ length l
   name-within k h =
       let x : List ℕ = recordAt l k in
-      let w : sizeOf (kindOf x) ≤ length x = good-passes l g k h .body .whole in
+      let w : recordSize (kindOf x) ≤ length x = good-passes l g k h .body .whole in
       omega (arith, w, record-length l k, place-begins l k h, trimmed-le (nameIn x), name-length x [] w, size-width (kindOf x))
 
   found-within : (k place n : ℕ) → k ≤ records l → nameOf l k ≡ at (place, n) → place + n ≤ length l

@@ -16,7 +16,7 @@ use Rattle.records.proofs.Fronts.{body-passes, behind-body, behind-fresh}
 use Rattle.records.proofs.Limits.{in-range}
 use Rattle.records.proofs.Reading.{Reached, reached-start, reached-next, reached-refusal, reached-count, reached-good, record-yes, record-no, fresh-next, fresh-none}
 use Rattle.records.proofs.Sizes.{size-least}
-use Rattle.records.specs.Record.{sizeOf, isNumberOf, kindOf, numberOf, records, isRecord, isFresh, bodyRefusal, behindRefusal, listRefusal}
+use Rattle.records.specs.Record.{recordSize, isNumberOf, kindOf, numberIn, records, isRecord, isFresh, bodyRefusal, behindRefusal, listRefusal}
 use Rattle.desk.specs.Label.{labelCounted, readLabelsRule}
 use Rattle.desk.specs.LabelInner.{Markable, markOf}
 use Rattle.desk.specs.declared.label.read.LabelCount.{LabelCount}
@@ -67,7 +67,7 @@ module _ (l : List ℕ) (n place : ℕ) (r : Reached l n place) (x : List ℕ) (
   pub body-faulty : place < length l → (k ≡ 0 → ⊥) → refused k ≡ readLabelsRule l
   body-faulty h f = stop h k (behind-body (take place l) x k ek f) f
 
-  module _ (z : k ≡ 0) (kind number : ℕ) (ea : kind ≡ kindOf x) (eb : number ≡ numberOf x) where
+  module _ (z : k ≡ 0) (kind number : ℕ) (ea : kind ≡ kindOf x) (eb : number ≡ numberIn x) where
     numbered : isNumberOf kind number ≡ true
     numbered = rw (ea, eb) (body-passes x (sym ek ∙ z) .number)
 
@@ -102,8 +102,8 @@ module _ (l : List ℕ) (n place : ℕ) (r : Reached l n place) (x : List ℕ) (
               turned true e = refl
               turned false e = sym e
 
-          module _ (size : ℕ) (es : size ≡ sizeOf kind) where
-            size-is : size ≡ sizeOf (kindOf (drop place l))
+          module _ (size : ℕ) (es : size ≡ recordSize kind) where
+            size-is : size ≡ recordSize (kindOf (drop place l))
             size-is = es ∙ rw (ea, ex)
 
             pub read-more : Reached l (n + 1) (place + size)

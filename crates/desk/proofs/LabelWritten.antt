@@ -14,11 +14,11 @@ use Rattle.records.proofs.Bytes.{label-length}
 use Rattle.records.proofs.Checking.{Writable, key-good}
 use Rattle.records.proofs.Likeness.{record-of-le}
 use Rattle.records.proofs.Limits.{padded-trimmed}
-use Rattle.records.specs.Record.{headSize, widthOf, sizeOf, records, recordOf, listRefusal, keyRefusal, labelBytes}
+use Rattle.records.specs.Record.{headSize, widthOf, recordSize, records, recordOf, listRefusal, keyRefusal, labelBytes}
 use Rattle.desk.proofs.LabelAdding.{Adding, adding}
 use Rattle.desk.proofs.LabelFinding.{find-good, name-stays}
 use Rattle.desk.specs.Label.{readLabelsRule, nameOf, findLabelRule, addRefusal, addRule}
-use Rattle.desk.specs.LabelWritten.{Written}
+use Rattle.desk.specs.LabelWritten.{Written, WrittenReads}
 
 pub read-good : (l : List ℕ) → listRefusal l ≡ 0 → readLabelsRule l ≡ gives (records l)
 unfolding readLabelsRule
@@ -52,12 +52,12 @@ module _ (b : List ℕ) (n kind number : ℕ) (name : List ℕ) (a : Adding b n 
   front-length : length (take n b) ≡ n
   front-length = rw length-take (omega (arith, a .within))
 
-  list-is : take (n + sizeOf kind) (put b n (labelBytes kind number name)) ≡ take n b ++ labelBytes kind number name
+  list-is : take (n + recordSize kind) (put b n (labelBytes kind number name)) ≡ take n b ++ labelBytes kind number name
   list-is =
-      put-head b n (labelBytes kind number name) (n + sizeOf kind)
+      put-head b n (labelBytes kind number name) (n + recordSize kind)
       (rw length-append (omega (arith, front-length, label-length kind number name (a .new .short))))
 
-  adding-reads : Written b n kind number name (n + sizeOf kind) (put b n (labelBytes kind number name))
+  adding-reads : Written b n kind number name (n + recordSize kind) (put b n (labelBytes kind number name))
   adding-reads =
       let l : List ℕ = take n b in
       let r : ℕ = length b - n in
@@ -69,11 +69,9 @@ module _ (b : List ℕ) (n kind number : ℕ) (name : List ℕ) (a : Adding b n 
         others = λ k m h. rw list-is (other-is l r kind number name (a .new) (a .good) k m h);
       }
 
--- whenever the writer does not refuse
-pub written-reads : (b : List ℕ) (n kind number : ℕ) (name : List ℕ) (n′ : ℕ) (b′ : List ℕ) → addRule b n kind number name ≡ (gives n′, b′)
-    → Written b n kind number name n′ b′
+pub written-reads : WrittenReads
 unfolding addRule
 written-reads b n kind number name n′ b′ q =
-    let g = ruled-gave (addRefusal b n kind number name) (n + sizeOf kind) n′ (put b n (labelBytes kind number name)) b (ap (λ z. z .0) q) in
+    let g = ruled-gave (addRefusal b n kind number name) (n + recordSize kind) n′ (put b n (labelBytes kind number name)) b (ap (λ z. z .0) q) in
     let s : b′ ≡ put b n (labelBytes kind number name) = sym (ap (λ z. z .1) q) ∙ g .1 .1 in
     rw (← (g .1 .0), s) (adding-reads b n kind number name (adding b n kind number name (g .0)))

@@ -1,7 +1,8 @@
 -- Cue lines: 01, "Cue lines and labels". `MIC n TO LSP m GAIN g` is seven words; the line is its own store. Assumes
 -- nothing.
-use Prim.Native.Nat.{ℕ, _-_}
-use mathlib.Core.Bool.{Bool, _&&_}
+use Prim.Native.Nat.{ℕ, _-_, _≤_}
+use mathlib.Core.Path.{_≡_}
+use mathlib.Core.Bool.{Bool, true, _&&_}
 use mathlib.Core.List.{List, [], _∷_, _++_}
 use lib.Dec.{eqb, leb}
 use lib.IntN.{ℤ, pos, negsuc, natAbs}
@@ -86,3 +87,12 @@ cueOf n m g = record { microphone = natAbs n; loudspeaker = natAbs m; gain = g }
 unfoldable pub cueRule : List ℕ → ℕ → ℕ → Outcome Cue
 cueRule line mics lsps =
     outcome (cueRefusal line mics lsps) (cueOf (numberOf 10 (micWord line)) (numberOf 10 (lspWord line)) (numberOf 10 (gainWord line)))
+
+-- a cue that is given lies in the matrix, and its gain in the range
+pub record Reaches (mics lsps : ℕ) (c : Cue) : Type 0 where
+  pub mic : (1 ≤ c .microphone) × (c .microphone ≤ mics)
+  pub lsp : (1 ≤ c .loudspeaker) × (c .loudspeaker ≤ lsps)
+  pub gain : isGain (c .gain) ≡ true
+
+abbrev pub CueGiven : Type 0
+CueGiven = (line : List ℕ) (mics lsps : ℕ) (c : Cue) → cueRule line mics lsps ≡ gives c → Reaches mics lsps c

@@ -10,7 +10,7 @@ use Rattle.strlib.specs.Refusal.{Outcome, refused, gives, Sought, nowhere, at, 
 use Rattle.strlib.specs.Store.{put}
 use Rattle.strlib.specs.declared.StrPtr.{StrPtr}
 use Rattle.cutting.specs.Cutting.{trimmedLength}
-use Rattle.records.specs.Record.{headSize, sizeOf, nameIn, placeOf, recordAt, records, recordOf, earlier, listRefusal, keyRefusal, newRefusal, labelBytes}
+use Rattle.records.specs.Record.{headSize, recordSize, nameIn, placeOf, recordAt, records, recordOf, earlier, listRefusal, keyRefusal, newRefusal, labelBytes}
 use Rattle.desk.specs.declared.label.read.LabelCount.{LabelCount}
 use Rattle.desk.specs.declared.label.read.LabelCount.the-variants.{Records, Refused as Uncounted}
 use Rattle.desk.specs.declared.label.find.LabelPlace.{LabelPlace}
@@ -58,7 +58,7 @@ addRefusal b n kind number name = cond (leb n (length b)) (earlier (listRefusal 
 
 -- the new length of the list, and the buffer, in which all other bytes stay
 unfoldable pub addRule : List ℕ → ℕ → ℕ → ℕ → List ℕ → Outcome ℕ × List ℕ
-addRule b n kind number name = ruled (addRefusal b n kind number name) (n + sizeOf kind) (put b n (labelBytes kind number name)) b
+addRule b n kind number name = ruled (addRefusal b n kind number name) (n + recordSize kind) (put b n (labelBytes kind number name)) b
 
 abbrev pub labelAdded : LabelAdded → Outcome ℕ
 labelAdded (Added n) = gives n

@@ -9,7 +9,7 @@ use Rattle.strlib.specs.Refusal.{refused, gives, at, outcome, after, ruled}
 use Rattle.strlib.specs.Store.{put}
 use Rattle.cutting.specs.Cutting.{isBlank, trimmedLength}
 use Rattle.records.specs.Walk.{lastOf}
-use Rattle.records.specs.Record.{widthOf, sizeOf, limitOf, isKind, isNumberOf, isName, kindOf, numberOf, nameIn, placeOf, recordAt, records, isRecord, recordOf}
+use Rattle.records.specs.Record.{widthOf, recordSize, limitOf, isKind, isNumberOf, isName, kindOf, numberIn, nameIn, placeOf, recordAt, records, isRecord, recordOf}
 use Rattle.records.specs.Record.{isFresh, bodyRefusal, behindRefusal, recordRefusal, earlier, faultIn, listRefusal, keyRefusal, newRefusal, padded, labelBytes}
 use Rattle.desk.specs.Label.{readLabelsRule, nameOf, findLabelRule, namePart, addRefusal, addRule}
 
@@ -44,7 +44,7 @@ pub record Examples : Type 0 where
 
 pub examples : Examples
 unfolding
-    lastOf widthOf sizeOf limitOf isKind isNumberOf isName kindOf numberOf nameIn placeOf recordAt records isRecord recordOf isFresh bodyRefusal behindRefusal
+    lastOf widthOf recordSize limitOf isKind isNumberOf isName kindOf numberIn nameIn placeOf recordAt records isRecord recordOf isFresh bodyRefusal behindRefusal
     recordRefusal earlier faultIn listRefusal keyRefusal newRefusal padded labelBytes readLabelsRule nameOf findLabelRule namePart addRefusal addRule pointer textOf all
     outcome after ruled put isBlank trimmedLength
 examples =

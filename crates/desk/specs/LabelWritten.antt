@@ -6,7 +6,7 @@ use lib.ListN.{take, drop}
 use Rattle.strlib.specs.Refusal.{gives, at}
 use Rattle.cutting.specs.Cutting.{trimmedLength}
 use Rattle.records.specs.Record.{headSize, records}
-use Rattle.desk.specs.Label.{readLabelsRule, findLabelRule}
+use Rattle.desk.specs.Label.{readLabelsRule, findLabelRule, addRule}
 
 -- a record was added behind the list of n bytes in the buffer b, and the list is now the first n′ bytes of b′
 pub record Written (b : List ℕ) (n kind number : ℕ) (name : List ℕ) (n′ : ℕ) (b′ : List ℕ) : Type 0 where
@@ -18,3 +18,10 @@ pub record Written (b : List ℕ) (n kind number : ℕ) (name : List ℕ) (n′ 
   pub text : take (trimmedLength name) (drop (n + headSize) (take n′ b′)) ≡ take (trimmedLength name) name
   -- and every other lookup gives what it gave
   pub others : (k m : ℕ) → ((k ≡ kind) × (m ≡ number) → ⊥) → findLabelRule (take n′ b′) k m ≡ findLabelRule (take n b) k m
+
+-- whenever the writer does not refuse
+abbrev pub WrittenReads : Type 0
+WrittenReads =
+    (b : List ℕ) (n kind number : ℕ) (name : List ℕ) (n′ : ℕ) (b′ : List ℕ)
+    → addRule b n kind number name ≡ (gives n′, b′)
+    → Written b n kind number name n′ b′

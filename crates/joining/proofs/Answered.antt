@@ -1,21 +1,20 @@
 -- The place rule of a call's answer, and a call with the maximum 0: from the rule on the definitions. Assumes nothing.
-use mathlib.Core.Path.{_≡_, refl, ap, _∙_}
-use mathlib.Core.Bool.{Bool, true, false}
+use mathlib.Core.Path.{_≡_, ap, _∙_}
 use mathlib.Core.List.{List}
-use Prim.Native.Nat.{ℕ, _+_, _-_, min}
+use Prim.Native.Nat.{ℕ, _+_, _-_, _<_}
 use native.Mathlib.Nat.{add-zero}
 use native.Mathlib.Omega.{arith}
 use lib.ListN.{length, take, drop, length-take, length-drop}
-use borrow.Author.Tests.{leb-true, leb-false}
+use borrow.Author.Tests.{leb-true, le-leb, lt-leb}
 use Rattle.strlib.proofs.Refusing.{bool-case}
 use Rattle.strlib.proofs.Storing.{put-none}
 use Rattle.strlib.proofs.Texts.{texts-long}
-use Rattle.strlib.specs.Pointer.{texts}
+use Rattle.strlib.specs.Pointer.{sized, goodIn, clear, texts}
 use Rattle.strlib.specs.Refusal.{gives}
 use Rattle.strlib.specs.declared.StrPtr.{StrPtr}
 use Rattle.joining.specs.Joining.{joined}
-use Rattle.joining.specs.Resuming.{offset, piece, completes, nextPlace, roundOf, joinFromRule}
-use Rattle.joining.specs.RoundRule.{NextPlace, PlaceRules, Unmoved, NothingMoves}
+use Rattle.joining.specs.Resuming.{offset, piece, completes, nextPlace, roundOf, resumed, joinFromRefusal, joinFromRule}
+use Rattle.joining.specs.RoundRule.{PlaceRule, PlaceRules, Unmoved, NothingMoves, AnyLength}
 use Rattle.joining.specs.declared.Place.{Place}
 use Rattle.joining.specs.declared.Round.{Round}
 use Rattle.joining.proofs.Chaining.{call-passed, call-store, call-round}
@@ -38,7 +37,7 @@ module _ (s : List ℕ) (destination : StrPtr) (list : List StrPtr) (count : ℕ
   abbrev round : Round
   round = roundOf xss destination o
 
-  next-of : length list ≡ 32 → (r : Round) → joinFromRule s destination list count from .0 ≡ gives r → NextPlace list count round
+  next-of : length list ≡ 32 → (r : Round) → joinFromRule s destination list count from .0 ≡ gives r → PlaceRule list count round
   unfolding roundOf
   next-of size r e =
       let ok = from-passed s destination list count from (call-passed s destination list count from r e) in
@@ -53,15 +52,15 @@ module _ (s : List ℕ) (destination : StrPtr) (list : List StrPtr) (count : ℕ
         inside = λ c. let I = R .inside c in ((I .0 .0, omega (arith, I .0)), (I .1 .0, omega (arith, I .1)));
       }
 
-  unmoved : m ≡ 0 → (r : Round) → joinFromRule s destination list count from .0 ≡ gives r → completes xss m o ≡ false → Unmoved s destination list count from round
+  unmoved : m ≡ 0 → o < length (joined xss) → (r : Round) → joinFromRule s destination list count from .0 ≡ gives r → Unmoved s destination list count from round
   unfolding roundOf piece nextPlace completes
-  unmoved z r e c =
-      let left = leb-false (length (drop o (joined xss))) m c in
+  unmoved z left r e =
       let long : length (drop o (joined xss)) ≡ length (joined xss) - o = length-drop o (joined xss) in
       record {
+        uncompleted = lt-leb (length (drop o (joined xss))) m (omega arith);
         stays = call-store s destination list count from r e ∙ rw (z, put-none);
         to = rw z;
-        next = rw (z, add-zero) (place-offset xss o ∙ omega (arith, left, long));
+        next = rw (z, add-zero) (place-offset xss o ∙ omega arith);
       }
 
 pub place-rules : PlaceRules
@@ -70,6 +69,9 @@ place-rules s destination list count from r size e =
 
 pub nothing-moves : NothingMoves
 unfolding roundOf
-nothing-moves s destination list count from r z e c =
-    let q = call-round s destination list count from r e in
-    rw q (unmoved s destination list count from z r e (rw q at c))
+nothing-moves s destination list count from r z left e =
+    rw (call-round s destination list count from r e) (unmoved s destination list count from z left r e)
+
+pub any-length : AnyLength
+unfolding joinFromRule joinFromRefusal goodIn clear sized resumed roundOf
+any-length s destination list count from n h k = rw (le-leb n (destination .maximum) k, le-leb (destination .length) (destination .maximum) h)

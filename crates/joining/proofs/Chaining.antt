@@ -15,7 +15,7 @@ use Rattle.strlib.proofs.Refusing.{ruled-gave}
 use Rattle.strlib.proofs.Storing.{part-put}
 use Rattle.joining.specs.Joining.{joined}
 use Rattle.joining.specs.Resuming.{offset, piece, completes, roundOf, resumed, joinFromRefusal, joinFromRule}
-use Rattle.joining.specs.RoundRule.{placeAfter, movedAfter, roundsFor, placeOf, Unfinished, Chain, heldAfter, ChainRule, ChainRules}
+use Rattle.joining.specs.RoundRule.{placeAfter, movedAfter, roundsFor, resumesAt, Unfinished, Chain, heldAfter, ChainRule, ChainRules}
 use Rattle.joining.specs.declared.Place.{Place}
 use Rattle.joining.specs.declared.Round.{Round}
 use Rattle.joining.proofs.Joining.{from-passed}
@@ -64,9 +64,9 @@ module _ (stores : ℕ → List ℕ) (destinations : ℕ → StrPtr) (list : Lis
   start n = offset all-texts (placeAfter all-texts m n)
 
   -- a round that is called is the definitions' round from the same place on
-  module _ (n : ℕ) (u : Unfinished rounds n) (p : placeOf rounds n ≡ placeAfter all-texts m n) where
-    chain-round : rounds n ≡ roundOf (texts (stores n) (take count list)) (destinations n) (offset (texts (stores n) (take count list)) (placeOf rounds n))
-    chain-round = call-round (stores n) (destinations n) list count (placeOf rounds n) (rounds n) (C .call n u)
+  module _ (n : ℕ) (u : Unfinished rounds n) (p : resumesAt rounds n ≡ placeAfter all-texts m n) where
+    chain-round : rounds n ≡ roundOf (texts (stores n) (take count list)) (destinations n) (offset (texts (stores n) (take count list)) (resumesAt rounds n))
+    chain-round = call-round (stores n) (destinations n) list count (resumesAt rounds n) (rounds n) (C .call n u)
 
     chain-next : rounds n .next ≡ placeAfter all-texts m (suc n)
     unfolding placeAfter roundOf
@@ -76,11 +76,11 @@ module _ (stores : ℕ → List ℕ) (destinations : ℕ → StrPtr) (list : Lis
     unfolding roundOf
     chain-completed = ap (λ (r : Round). r .completed) chain-round ∙ rw (C .same n u, C .room n u, p)
 
-    chain-held : textOf (joinFromRule (stores n) (destinations n) list count (placeOf rounds n) .1) (rounds n .to) ≡ piece all-texts m (start n)
-    chain-held = call-held (stores n) (destinations n) list count (placeOf rounds n) (rounds n) (C .call n u) ∙ rw (C .same n u, C .room n u, p)
+    chain-held : textOf (joinFromRule (stores n) (destinations n) list count (resumesAt rounds n) .1) (rounds n .to) ≡ piece all-texts m (start n)
+    chain-held = call-held (stores n) (destinations n) list count (resumesAt rounds n) (rounds n) (C .call n u) ∙ rw (C .same n u, C .room n u, p)
 
   -- every round up to the last is called
-  called : (n : ℕ) → n < last → Unfinished rounds n × (placeOf rounds n ≡ placeAfter all-texts m n)
+  called : (n : ℕ) → n < last → Unfinished rounds n × (resumesAt rounds n ≡ placeAfter all-texts m n)
   unfolding placeAfter
   called zero l = (λ k i. absurd (omega arith), refl)
   called (suc n) l =

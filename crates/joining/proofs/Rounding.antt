@@ -11,10 +11,10 @@ use borrow.Author.Tests.{leb-true, leb-false, le-leb, lt-leb}
 use Rattle.strlib.proofs.Pointing.{either}
 use Rattle.joining.specs.Joining.{joined}
 use Rattle.joining.specs.Resuming.{before, offset, piece, completes, nextPlace}
-use Rattle.joining.specs.RoundRule.{placeAfter, movedAfter, roundsFor, RoundRule, RoundRules, PlaceRule}
+use Rattle.joining.specs.RoundRule.{placeAfter, movedAfter, roundsFor, RoundRule, RoundRules, PlaceLaw}
 use Rattle.joining.proofs.Placing.{place-on, place-behind, place-offset}
 
-pub place-rule : (xss : List (List ℕ)) (m o : ℕ) → PlaceRule xss m o
+pub place-rule : (xss : List (List ℕ)) (m o : ℕ) → PlaceLaw xss m o
 unfolding completes nextPlace
 place-rule xss m o =
     let l : length (drop o (joined xss)) ≡ length (joined xss) - o = length-drop o (joined xss) in

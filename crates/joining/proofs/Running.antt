@@ -15,7 +15,7 @@ use Rattle.strlib.specs.declared.StrPtr.{StrPtr}
 use Rattle.strlib.proofs.Pointing.{good-is}
 use Rattle.strlib.proofs.Storing.{put-length}
 use Rattle.joining.specs.Resuming.{placeIn, offset, piece, completes, nextPlace, roundOf, resumed, joinFromRefusal, joinFromRule}
-use Rattle.joining.specs.RoundRule.{firstPlace, placeAfter, placeOf, Chain, roundAfter, storeAfter, RunRule, RunRules}
+use Rattle.joining.specs.RoundRule.{firstPlace, placeAfter, resumesAt, Chain, roundAfter, storeAfter, AgainRule, AgainRules}
 use Rattle.joining.specs.declared.Place.{Place}
 use Rattle.strlib.proofs.Texts.{texts-long, texts-readable}
 use Rattle.joining.proofs.Texts.{texts-at, texts-kept}
@@ -91,7 +91,7 @@ module _ (s : List ℕ) (destination : StrPtr) (list : List StrPtr) (count : ℕ
         rw p (texts-kept t destination ps (piece xss m (at n)) g (ok .join .apart) (piece-short n) ∙ k .1),
       )
 
-  place-same : (n : ℕ) → placeOf (roundAfter xss destination) n ≡ placeAfter xss m n
+  place-same : (n : ℕ) → resumesAt (roundAfter xss destination) n ≡ placeAfter xss m n
   unfolding placeAfter roundOf
   place-same zero = refl
   place-same (suc n) = refl
@@ -106,8 +106,8 @@ module _ (s : List ℕ) (destination : StrPtr) (list : List StrPtr) (count : ℕ
   unfolding storeAfter
   run-chain = record { room = λ n u. refl; same = λ n u. kept n .1; call = λ n u. rw (place-same n) (called n) }
 
-  run : 1 ≤ m → RunRule s destination list count
+  run : 1 ≤ m → AgainRule s destination list count
   run h = record { given = called; rule = chain-rule (storeAfter s destination list count) (λ _. destination) list count m (roundAfter xss destination) h run-chain }
 
-pub run-rule : RunRules
+pub run-rule : AgainRules
 run-rule s destination list count r L h e = run s destination list count L (call-passed s destination list count firstPlace r e) h

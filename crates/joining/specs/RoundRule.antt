@@ -1,5 +1,5 @@
 -- The place rule and the round rule of the checkpointed join: 01, "Copying", second paragraph. Each claim is one type:
--- `PlaceRules`, `NothingMoves`, `RoundRules`, `ChainRules`, `RunRules`. Assumes nothing.
+-- `PlaceRules`, `NothingMoves`, `RoundRules`, `ChainRules`, `AnyLength`, `AgainRules`. Assumes nothing.
 use Prim.Native.Nat.{ℕ, zero, suc, _+_, _-_, _/_, _≤_, _<_, max}
 use mathlib.Core.Path.{_≡_}
 use mathlib.Core.Bool.{true, false}
@@ -21,7 +21,7 @@ firstPlace = record { string = 1; character = 1 }
 
 -- of a call's answer: its next place is (count + 1, 1) exactly where it is completed, and else on a character that
 -- exists
-pub record NextPlace (list : List StrPtr) (count : ℕ) (r : Round) : Type 0 where
+pub record PlaceRule (list : List StrPtr) (count : ℕ) (r : Round) : Type 0 where
   pub behind : r .completed ≡ true → r .next ≡ record { string = count + 1; character = 1 }
   pub is-behind : r .next ≡ record { string = count + 1; character = 1 } → r .completed ≡ true
   pub inside : r .completed ≡ false
@@ -34,11 +34,12 @@ PlaceRules =
     (s : List ℕ) (destination : StrPtr) (list : List StrPtr) (count : ℕ) (from : Place) (r : Round)
     → length list ≡ 32
     → joinFromRule s destination list count from .0 ≡ gives r
-    → NextPlace list count r
+    → PlaceRule list count r
 
--- with the maximum 0 and something left nothing moves: the store stays, the destination is empty, and the next place is
--- that of the same character
+-- with the maximum 0 and something left nothing moves: the round is not completed, the store stays, the destination is
+-- empty, and the next place is that of the same character
 pub record Unmoved (s : List ℕ) (destination : StrPtr) (list : List StrPtr) (count : ℕ) (from : Place) (r : Round) : Type 0 where
+  pub uncompleted : r .completed ≡ false
   pub stays : joinFromRule s destination list count from .1 ≡ s
   pub to : r .to ≡ sized destination 0
   pub next : offset (texts s (take count list)) (r .next) ≡ offset (texts s (take count list)) from
@@ -47,12 +48,12 @@ abbrev pub NothingMoves : Type 0
 NothingMoves =
     (s : List ℕ) (destination : StrPtr) (list : List StrPtr) (count : ℕ) (from : Place) (r : Round)
     → destination .maximum ≡ 0
+    → offset (texts s (take count list)) from < length (joined (texts s (take count list)))
     → joinFromRule s destination list count from .0 ≡ gives r
-    → r .completed ≡ false
     → Unmoved s destination list count from r
 
 -- the place rule on the definitions
-pub record PlaceRule (xss : List (List ℕ)) (m o : ℕ) : Type 0 where
+pub record PlaceLaw (xss : List (List ℕ)) (m o : ℕ) : Type 0 where
   pub behind : completes xss m o ≡ true → nextPlace xss m o ≡ record { string = length xss + 1; character = 1 }
   pub inside : completes xss m o ≡ false
       → ((1 ≤ nextPlace xss m o .string) × (nextPlace xss m o .string ≤ length xss))
@@ -87,9 +88,9 @@ RoundRules = (xss : List (List ℕ)) (m : ℕ) → 1 ≤ m → RoundRule xss m
 -- ---- the round rule, of calls
 
 -- where round n + 1 resumes: at (1, 1), then where the round before says
-abbrev pub placeOf : (ℕ → Round) → ℕ → Place
-placeOf rounds zero = firstPlace
-placeOf rounds (suc n) = rounds n .next
+abbrev pub resumesAt : (ℕ → Round) → ℕ → Place
+resumesAt rounds zero = firstPlace
+resumesAt rounds (suc n) = rounds n .next
 
 -- no round before round n + 1 completed, so that it is called
 abbrev pub Unfinished : (ℕ → Round) → ℕ → Type 0
@@ -100,14 +101,14 @@ Unfinished rounds n = (k : ℕ) → k < n → rounds k .completed ≡ false
 pub record Chain (stores : ℕ → List ℕ) (destinations : ℕ → StrPtr) (list : List StrPtr) (count m : ℕ) (rounds : ℕ → Round) : Type 0 where
   pub room : (n : ℕ) → Unfinished rounds n → destinations n .maximum ≡ m
   pub same : (n : ℕ) → Unfinished rounds n → texts (stores n) (take count list) ≡ texts (stores 0) (take count list)
-  pub call : (n : ℕ) → Unfinished rounds n → joinFromRule (stores n) (destinations n) list count (placeOf rounds n) .0 ≡ gives (rounds n)
+  pub call : (n : ℕ) → Unfinished rounds n → joinFromRule (stores n) (destinations n) list count (resumesAt rounds n) .0 ≡ gives (rounds n)
 
 -- what the destinations hold after n calls, joined
 unfoldable pub heldAfter : (ℕ → List ℕ) → (ℕ → StrPtr) → List StrPtr → ℕ → (ℕ → Round) → ℕ → List ℕ
 heldAfter stores destinations list count rounds zero = []
 heldAfter stores destinations list count rounds (suc n) =
     heldAfter stores destinations list count rounds n
-    ++ textOf (joinFromRule (stores n) (destinations n) list count (placeOf rounds n) .1) (rounds n .to)
+    ++ textOf (joinFromRule (stores n) (destinations n) list count (resumesAt rounds n) .1) (rounds n .to)
 
 -- the round rule for what the calls answer and for what their destinations hold
 pub record ChainRule (stores : ℕ → List ℕ) (destinations : ℕ → StrPtr) (list : List StrPtr) (count m : ℕ) (rounds : ℕ → Round) : Type 0 where
@@ -125,6 +126,15 @@ ChainRules =
 
 -- ---- one destination, called again
 
+-- the length that a destination has counts for nothing, as long as it keeps to its maximum: a call may be given the
+-- pointer that the call before gave
+abbrev pub AnyLength : Type 0
+AnyLength =
+    (s : List ℕ) (destination : StrPtr) (list : List StrPtr) (count : ℕ) (from : Place) (n : ℕ)
+    → destination .length ≤ destination .maximum
+    → n ≤ destination .maximum
+    → joinFromRule s (sized destination n) list count from ≡ joinFromRule s destination list count from
+
 -- what round n + 1 answers
 abbrev pub roundAfter : List (List ℕ) → StrPtr → ℕ → Round
 roundAfter xss destination n = roundOf xss destination (offset xss (placeAfter xss (destination .maximum) n))
@@ -136,17 +146,17 @@ storeAfter s destination list count (suc n) =
     joinFromRule (storeAfter s destination list count n) destination list count (placeAfter (texts s (take count list)) (destination .maximum) n) .1
 
 -- no later call is refused, and the round rule holds of the calls
-pub record RunRule (s : List ℕ) (destination : StrPtr) (list : List StrPtr) (count : ℕ) : Type 0 where
+pub record AgainRule (s : List ℕ) (destination : StrPtr) (list : List StrPtr) (count : ℕ) : Type 0 where
   pub given : (n : ℕ)
       → joinFromRule (storeAfter s destination list count n) destination list count (placeAfter (texts s (take count list)) (destination .maximum) n) .0
       ≡ gives (roundAfter (texts s (take count list)) destination n)
   pub rule : ChainRule (storeAfter s destination list count) (λ _. destination) list count (destination .maximum) (roundAfter (texts s (take count list)) destination)
 
 -- any store and list, which has 32 places; a destination of maximum 1 or more; a first call that is not refused
-abbrev pub RunRules : Type 0
-RunRules =
+abbrev pub AgainRules : Type 0
+AgainRules =
     (s : List ℕ) (destination : StrPtr) (list : List StrPtr) (count : ℕ) (r : Round)
     → length list ≡ 32
     → 1 ≤ destination .maximum
     → joinFromRule s destination list count firstPlace .0 ≡ gives r
-    → RunRule s destination list count
+    → AgainRule s destination list count

@@ -10,17 +10,17 @@ use Rattle.strlib.specs.Store.{put}
 unfoldable pub moved : List ℕ → ℕ → ℕ → ℕ → List ℕ
 moved s from to n = cond (within (length s) from n && within (length s) to n) (put s to (take n (drop from s))) s
 
--- s with ys written over its n bytes from index at on
-abbrev pub written : List ℕ → ℕ → ℕ → List ℕ → List ℕ
-written s at n ys = cond (within (length s) at n) (put s at ys) s
+-- s with ys, n bytes, written from index at on, where they lie in s
+abbrev pub overwritten : List ℕ → ℕ → ℕ → List ℕ → List ℕ
+overwritten s at n ys = cond (within (length s) at n) (put s at ys) s
 
 -- s with n blanks written from index at on
 unfoldable pub blanked : List ℕ → ℕ → ℕ → List ℕ
-blanked s at n = written s at n (replicate n 32)
+blanked s at n = overwritten s at n (replicate n 32)
 
 -- s with bytes written from index at on
 unfoldable pub pasted : List ℕ → ℕ → List ℕ → List ℕ
-pasted s at xs = written s at (length xs) xs
+pasted s at xs = overwritten s at (length xs) xs
 
 -- characters from the last to the first
 unfoldable pub reversed : List ℕ → List ℕ
@@ -29,4 +29,4 @@ reversed (x ∷ xs) = reversed xs ++ (x ∷ [])
 
 -- s with its n characters from index at on reversed
 unfoldable pub reversedAt : List ℕ → ℕ → ℕ → List ℕ
-reversedAt s at n = written s at n (reversed (take n (drop at s)))
+reversedAt s at n = overwritten s at n (reversed (take n (drop at s)))

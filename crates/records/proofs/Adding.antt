@@ -16,7 +16,7 @@ use Rattle.records.proofs.Fronts.{unrefused}
 use Rattle.records.proofs.Goodness.{more-good, more-records, more-place, more-last, name-text}
 use Rattle.records.proofs.Likeness.{alike-more, record-of-alike}
 use Rattle.records.proofs.Limits.{padded-name, padded-text}
-use Rattle.records.specs.Record.{headSize, widthOf, sizeOf, kindOf, nameIn, placeOf, recordAt, records, isRecord, recordOf, behindRefusal, listRefusal}
+use Rattle.records.specs.Record.{headSize, widthOf, recordSize, kindOf, nameIn, placeOf, recordAt, records, isRecord, recordOf, behindRefusal, listRefusal}
 use Rattle.records.specs.Record.{padded, labelBytes}
 use Rattle.records.specs.Walk.{lastOf}
 
@@ -24,8 +24,8 @@ module _ (l : List ℕ) (room kind number : ℕ) (name : List ℕ) (w : Writable
   abbrev rec : List ℕ
   rec = labelBytes kind number name
 
-  rec-length : length rec ≡ sizeOf (kindOf rec)
-  rec-length = label-length kind number name (w .short) ∙ ap sizeOf (sym (label-kind kind number name))
+  rec-length : length rec ≡ recordSize (kindOf rec)
+  rec-length = label-length kind number name (w .short) ∙ ap recordSize (sym (label-kind kind number name))
 
   rec-passes : behindRefusal l rec ≡ 0
   rec-passes =

@@ -7,20 +7,20 @@ use native.Mathlib.Omega.{arith}
 use lib.ListN.{length}
 use lib.Seq.{take-all}
 use Rattle.records.proofs.Limits.{padded-length}
-use Rattle.records.specs.Record.{widthOf, sizeOf, kindOf, numberOf, nameIn, padded, labelBytes, fittedBytes}
+use Rattle.records.specs.Record.{widthOf, recordSize, kindOf, numberIn, nameIn, padded, labelBytes, fittedBytes}
 
 module _ (kind number : ℕ) (name : List ℕ) where
   pub label-kind : kindOf (labelBytes kind number name) ≡ kind
   unfolding kindOf labelBytes
   label-kind = refl
 
-  pub label-number : numberOf (labelBytes kind number name) ≡ number
-  unfolding numberOf labelBytes
+  pub label-number : numberIn (labelBytes kind number name) ≡ number
+  unfolding numberIn labelBytes
   label-number = div-add-mod' number 256
 
   module _ (short : length name ≤ widthOf kind) where
-    pub label-length : length (labelBytes kind number name) ≡ sizeOf kind
-    unfolding labelBytes sizeOf
+    pub label-length : length (labelBytes kind number name) ≡ recordSize kind
+    unfolding labelBytes recordSize
     label-length = omega (arith, padded-length (widthOf kind) name short)
 
     pub label-name : nameIn (labelBytes kind number name) ≡ padded (widthOf kind) name

@@ -11,7 +11,7 @@ use Rattle.strlib.proofs.Refusing.{inTurn, first-is, first-before, first-behind
 use Rattle.strlib.specs.Pointer.{pointer, textOf}
 use Rattle.strlib.specs.Refusal.{first, also}
 use Rattle.strlib.specs.declared.StrPtr.{StrPtr}
-use Rattle.records.specs.Record.{headSize, widthOf, sizeOf, limitOf, isKind, isNumberOf, isName, kindOf, numberOf, nameIn, isRecord, recordOf, records, isFresh}
+use Rattle.records.specs.Record.{headSize, widthOf, recordSize, limitOf, isKind, isNumberOf, isName, kindOf, numberIn, nameIn, isRecord, recordOf, records, isFresh}
 use Rattle.records.specs.Record.{bodyChecks, bodyRefusal, keyChecks, keyRefusal, formChecks, newChecks, newRefusal}
 
 -- ---- what stands at the front
@@ -24,8 +24,8 @@ module _ (x : List ℕ) where
   unfolding kindOf
   kind-read k e = e
 
-  pub number-read : (h l r : ℕ) → h ≡ getD x 1 0 → l ≡ getD x 2 0 → r ≡ h * 256 + l → r ≡ numberOf x
-  unfolding numberOf
+  pub number-read : (h l r : ℕ) → h ≡ getD x 1 0 → l ≡ getD x 2 0 → r ≡ h * 256 + l → r ≡ numberIn x
+  unfolding numberIn
   number-read h l r e f g = rw (← e, ← f) g
 
   module _ (k : ℕ) (e : k ≡ kindOf x) where
@@ -33,7 +33,7 @@ module _ (x : List ℕ) where
     unfolding nameIn textOf pointer
     name-read w p y f g h = h ∙ rw (g, f, e)
 
-    pub record-read : (n number kind : ℕ) (b : Bool) → n ≡ numberOf x → b ≡ (eqb k kind && eqb n number) → b ≡ isRecord x kind number
+    pub record-read : (n number kind : ℕ) (b : Bool) → n ≡ numberIn x → b ≡ (eqb k kind && eqb n number) → b ≡ isRecord x kind number
     unfolding isRecord
     record-read n number kind b f g = rw (← e, ← f) g
 
@@ -47,8 +47,8 @@ module _ (kind limit found₁ : ℕ) (d : limit ≡ limitOf kind) (e₁ : found�
     unfolding keyRefusal isKind
     key-checked found₂ e₂ = first-is (keyChecks kind number) refl found₂ (rw (e₂, e₁, d, f))
 
-  module _ (x : List ℕ) (k : kind ≡ kindOf x) (size found₂ : ℕ) (s : size ≡ sizeOf kind) (e₂ : found₂ ≡ also found₁ 11 (leb size (length x))) where
-    pub body-checked : (number : ℕ) (t : Bool) (found₃ : ℕ) → number ≡ numberOf x → t ≡ isNumberOf kind number → found₃ ≡ also found₂ 12 t
+  module _ (x : List ℕ) (k : kind ≡ kindOf x) (size found₂ : ℕ) (s : size ≡ recordSize kind) (e₂ : found₂ ≡ also found₁ 11 (leb size (length x))) where
+    pub body-checked : (number : ℕ) (t : Bool) (found₃ : ℕ) → number ≡ numberIn x → t ≡ isNumberOf kind number → found₃ ≡ also found₂ 12 t
         → (name : List ℕ) (u : Bool) (found₄ : ℕ) → name ≡ nameIn x → u ≡ isName name → found₄ ≡ also found₃ 2 u → found₄ ≡ bodyRefusal x
     unfolding bodyRefusal isKind
     body-checked number t found₃ n f e₃ name u found₄ m g e₄ = first-is (bodyChecks x) refl found₄ (rw (e₄, e₃, e₂, e₁, g, m, f, n, s, d, k))
@@ -59,7 +59,7 @@ pub ruleset checked-laws = (needs, key-checked, body-checked)
 module _ (l : List ℕ) (room kind number : ℕ) (name : List ℕ) (found₁ w found₂ : ℕ) (e₁ : found₁ ≡ keyRefusal kind number) (ew : w ≡ widthOf kind)
     (e₂ : found₂ ≡ also found₁ 4 (leb (length name) w)) where
   abbrev behind : List (ℕ × Bool)
-  behind = (2, isName name) ∷ (11, isFresh l kind number) ∷ (6, leb (sizeOf kind) room) ∷ []
+  behind = (2, isName name) ∷ (11, isFresh l kind number) ∷ (6, leb (recordSize kind) room) ∷ []
 
   form : found₂ ≡ first (formChecks kind number name)
   unfolding keyRefusal
@@ -73,7 +73,7 @@ module _ (l : List ℕ) (room kind number : ℕ) (name : List ℕ) (found₁ w f
 
   pub new-behind : found₂ ≡ 0 → (t : Bool) (found₃ : ℕ) → t ≡ isName name → found₃ ≡ also 0 2 t
       → (k found₄ : ℕ) → k ≡ recordOf l kind number (records l) → found₄ ≡ also found₃ 11 (eqb k 0)
-      → (size found₅ : ℕ) → size ≡ sizeOf kind → found₅ ≡ also found₄ 6 (leb size room) → found₅ ≡ newRefusal l room kind number name
+      → (size found₅ : ℕ) → size ≡ recordSize kind → found₅ ≡ also found₄ 6 (leb size room) → found₅ ≡ newRefusal l room kind number name
   unfolding newRefusal isFresh
   new-behind z t found₃ f e₃ k found₄ g e₄ size found₅ s e₅ =
       first-is behind refl found₅ (rw (e₅, e₄, e₃, f, g, s)) ∙ sym (first-behind (formChecks kind number name) behind refl (sym form ∙ z))
@@ -88,7 +88,7 @@ pub record Writable (l : List ℕ) (room kind number : ℕ) (name : List ℕ) : 
   pub short : length name ≤ widthOf kind
   pub plain : isName name ≡ true
   pub fresh : isFresh l kind number ≡ true
-  pub roomy : sizeOf kind ≤ room
+  pub roomy : recordSize kind ≤ room
 
 pub writable : (l : List ℕ) (room kind number : ℕ) (name : List ℕ) → newRefusal l room kind number name ≡ 0 → Writable l room kind number name
 unfolding newRefusal
@@ -100,7 +100,7 @@ writable l room kind number name e =
       short = leb-true (length name) (widthOf kind) (p .1 .1 .0);
       plain = p .1 .1 .1 .0;
       fresh = p .1 .1 .1 .1 .0;
-      roomy = leb-true (sizeOf kind) room (p .1 .1 .1 .1 .1 .0);
+      roomy = leb-true (recordSize kind) room (p .1 .1 .1 .1 .1 .0);
     }
 
 -- its kind and number may be asked for

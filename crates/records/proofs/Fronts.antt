@@ -9,45 +9,45 @@ use lib.Seq.{take-append-le, drop-append-le, length-take-le}
 use borrow.Author.Tests.{leb-true, le-leb}
 use Rattle.strlib.proofs.Refusing.{passed, first-before, first-behind}
 use Rattle.records.proofs.Sizes.{size-least, size-width}
-use Rattle.records.specs.Record.{headSize, widthOf, sizeOf, isKind, isNumberOf, isName, kindOf, numberOf, nameIn, isFresh}
+use Rattle.records.specs.Record.{headSize, widthOf, recordSize, isKind, isNumberOf, isName, kindOf, numberIn, nameIn, isFresh}
 use Rattle.records.specs.Record.{bodyChecks, bodyRefusal, behindRefusal}
 
 -- the record at the front of `rest` is not refused by itself
 pub record Body (rest : List ℕ) : Type 0 where
   pub kind : isKind (kindOf rest) ≡ true
-  pub whole : sizeOf (kindOf rest) ≤ length rest
-  pub number : isNumberOf (kindOf rest) (numberOf rest) ≡ true
+  pub whole : recordSize (kindOf rest) ≤ length rest
+  pub number : isNumberOf (kindOf rest) (numberIn rest) ≡ true
   pub name : isName (nameIn rest) ≡ true
 
 pub body-passes : (rest : List ℕ) → bodyRefusal rest ≡ 0 → Body rest
 unfolding bodyRefusal
 body-passes rest e =
     let p = passed (bodyChecks rest) refl e in
-    record { kind = p .0; whole = leb-true (sizeOf (kindOf rest)) (length rest) (p .1 .0); number = p .1 .1 .0; name = p .1 .1 .1 .0 }
+    record { kind = p .0; whole = leb-true (recordSize (kindOf rest)) (length rest) (p .1 .0); number = p .1 .1 .0; name = p .1 .1 .1 .0 }
 
 pub body-unrefused : (rest : List ℕ) → Body rest → bodyRefusal rest ≡ 0
 unfolding bodyRefusal
-body-unrefused rest p = rw (p .kind, le-leb (sizeOf (kindOf rest)) (length rest) (p .whole), p .number, p .name)
+body-unrefused rest p = rw (p .kind, le-leb (recordSize (kindOf rest)) (length rest) (p .whole), p .number, p .name)
 
 -- and not behind `met`
 pub record Passes (met rest : List ℕ) : Type 0 where
   pub body : Body rest
-  pub fresh : isFresh met (kindOf rest) (numberOf rest) ≡ true
+  pub fresh : isFresh met (kindOf rest) (numberIn rest) ≡ true
 
 module _ (met rest : List ℕ) where
   -- what it is refused with by itself stands before all else
   pub behind-body : (k : ℕ) → k ≡ bodyRefusal rest → (k ≡ 0 → ⊥) → k ≡ behindRefusal met rest
   unfolding bodyRefusal behindRefusal
-  behind-body k e h = first-before (bodyChecks rest) ((11, isFresh met (kindOf rest) (numberOf rest)) ∷ []) k e h
+  behind-body k e h = first-before (bodyChecks rest) ((11, isFresh met (kindOf rest) (numberIn rest)) ∷ []) k e h
 
-  pub behind-fresh : bodyRefusal rest ≡ 0 → behindRefusal met rest ≡ cond (isFresh met (kindOf rest) (numberOf rest)) 0 11
+  pub behind-fresh : bodyRefusal rest ≡ 0 → behindRefusal met rest ≡ cond (isFresh met (kindOf rest) (numberIn rest)) 0 11
   unfolding bodyRefusal behindRefusal
-  behind-fresh e = first-behind (bodyChecks rest) ((11, isFresh met (kindOf rest) (numberOf rest)) ∷ []) refl e
+  behind-fresh e = first-behind (bodyChecks rest) ((11, isFresh met (kindOf rest) (numberIn rest)) ∷ []) refl e
 
   pub passes : behindRefusal met rest ≡ 0 → Passes met rest
   passes e =
       let z : bodyRefusal rest ≡ 0 = none (bodyRefusal rest) refl in
-      record { body = body-passes rest z; fresh = go (isFresh met (kindOf rest) (numberOf rest)) (sym (behind-fresh z) ∙ e) }
+      record { body = body-passes rest z; fresh = go (isFresh met (kindOf rest) (numberIn rest)) (sym (behind-fresh z) ∙ e) }
     where
       none : (k : ℕ) → bodyRefusal rest ≡ k → k ≡ 0
       none zero q = refl
@@ -60,7 +60,7 @@ module _ (met rest : List ℕ) where
   pub unrefused : Passes met rest → behindRefusal met rest ≡ 0
   unrefused p = behind-fresh (body-unrefused rest (p .body)) ∙ rw (p .fresh)
 
-module _ (x y : List ℕ) (h : sizeOf (kindOf x) ≤ length x) where
+module _ (x y : List ℕ) (h : recordSize (kindOf x) ≤ length x) where
   byte-front : (i : ℕ) → i < 19 → getD (x ++ y) i 0 ≡ getD x i 0
   byte-front i k = List·getD-append x y 0 i (omega (arith, size-least (kindOf x)))
 
@@ -68,8 +68,8 @@ module _ (x y : List ℕ) (h : sizeOf (kindOf x) ≤ length x) where
   unfolding kindOf
   kind-front = byte-front 0 (omega arith)
 
-  pub number-front : numberOf (x ++ y) ≡ numberOf x
-  unfolding numberOf
+  pub number-front : numberIn (x ++ y) ≡ numberIn x
+  unfolding numberIn
   number-front = rw (byte-front 1 (omega arith), byte-front 2 (omega arith))
 
   pub name-front : nameIn (x ++ y) ≡ nameIn x
@@ -88,8 +88,8 @@ module _ (x y : List ℕ) (h : sizeOf (kindOf x) ≤ length x) where
   pub refusal-front : (met : List ℕ) → behindRefusal met (x ++ y) ≡ behindRefusal met x
   unfolding behindRefusal
   refusal-front met =
-      let a : sizeOf (kindOf x) ≤ length (x ++ y) = rw length-append (omega arith) in
-      rw (kind-front, number-front, name-front, le-leb (sizeOf (kindOf x)) (length (x ++ y)) a, le-leb (sizeOf (kindOf x)) (length x) h)
+      let a : recordSize (kindOf x) ≤ length (x ++ y) = rw length-append (omega arith) in
+      rw (kind-front, number-front, name-front, le-leb (recordSize (kindOf x)) (length (x ++ y)) a, le-leb (recordSize (kindOf x)) (length x) h)
 
 pub kind-take : (n : ℕ) (l : List ℕ) → 0 < n → kindOf (take n l) ≡ kindOf l
 unfolding kindOf
@@ -100,20 +100,20 @@ kind-take (suc n) (x ∷ l) h = refl
 -- the bytes of the record at the front, and nothing behind
 module _ (rest : List ℕ) where
   abbrev pub recordBytes : List ℕ
-  recordBytes = take (sizeOf (kindOf rest)) rest
+  recordBytes = take (recordSize (kindOf rest)) rest
 
   pub bytes-kind : kindOf recordBytes ≡ kindOf rest
-  bytes-kind = kind-take (sizeOf (kindOf rest)) rest (omega (arith, size-least (kindOf rest)))
+  bytes-kind = kind-take (recordSize (kindOf rest)) rest (omega (arith, size-least (kindOf rest)))
 
-  module _ (h : sizeOf (kindOf rest) ≤ length rest) where
-    pub bytes-length : length recordBytes ≡ sizeOf (kindOf recordBytes)
-    bytes-length = rw bytes-kind (length-take-le (sizeOf (kindOf rest)) rest h)
+  module _ (h : recordSize (kindOf rest) ≤ length rest) where
+    pub bytes-length : length recordBytes ≡ recordSize (kindOf recordBytes)
+    bytes-length = rw bytes-kind (length-take-le (recordSize (kindOf rest)) rest h)
 
-    bytes-whole : sizeOf (kindOf recordBytes) ≤ length recordBytes
+    bytes-whole : recordSize (kindOf recordBytes) ≤ length recordBytes
     bytes-whole = omega (arith, bytes-length)
 
-    split : recordBytes ++ drop (sizeOf (kindOf rest)) rest ≡ rest
-    split = take-append-drop (sizeOf (kindOf rest)) rest
+    split : recordBytes ++ drop (recordSize (kindOf rest)) rest ≡ rest
+    split = take-append-drop (recordSize (kindOf rest)) rest
 
     pub bytes-refusal : (met : List ℕ) → behindRefusal met recordBytes ≡ behindRefusal met rest
-    bytes-refusal met = sym (refusal-front recordBytes (drop (sizeOf (kindOf rest)) rest) bytes-whole met) ∙ ap (behindRefusal met) split
+    bytes-refusal met = sym (refusal-front recordBytes (drop (recordSize (kindOf rest)) rest) bytes-whole met) ∙ ap (behindRefusal met) split

@@ -13,7 +13,7 @@ use Rattle.records.proofs.Sizes.{size-is, size-least, records-reach, re
 use Rattle.records.proofs.Sizes.{place-begins}
 use Rattle.records.proofs.Limits.{earlier-none, earlier-found, earlier-zero}
 use Rattle.records.proofs.Walking.{below-suc}
-use Rattle.records.specs.Record.{headSize, widthOf, sizeOf, kindOf, nameIn, placeOf, recordAt, records, behindRefusal, recordRefusal, earlier, faultIn, listRefusal}
+use Rattle.records.specs.Record.{headSize, widthOf, recordSize, kindOf, nameIn, placeOf, recordAt, records, behindRefusal, recordRefusal, earlier, faultIn, listRefusal}
 
 -- ---- a list is good exactly where each of its records passes behind those before it
 
@@ -54,7 +54,7 @@ module _ (l : List ℕ) where
   unfolding recordAt
   record-length k = length-drop (placeOf l k) l
 
-  pub record-size : (k : ℕ) → sizeOf (kindOf (recordAt l k)) ≡ sizeOf (kindOf l)
+  pub record-size : (k : ℕ) → recordSize (kindOf (recordAt l k)) ≡ recordSize (kindOf l)
   record-size k = size-is (kindOf (recordAt l k)) ∙ sym (size-is (kindOf l))
 
   module _ (k : ℕ) (e : recordRefusal l k ≡ 0) where
@@ -94,7 +94,7 @@ module _ (l r : List ℕ) where
   place-front k h = go l h
     where
       go : (l : List ℕ) → k ≤ records l → placeOf (l ++ r) k ≡ placeOf l k
-      go [] h = let z : k ≡ 0 = omega (arith, records-nil) in rw (z, mul-zero (sizeOf (kindOf r)), mul-zero (sizeOf (kindOf [])))
+      go [] h = let z : k ≡ 0 = omega (arith, records-nil) in rw (z, mul-zero (recordSize (kindOf r)), mul-zero (recordSize (kindOf [])))
       go (c ∷ l) h = refl
 
   module _ (k : ℕ) (h : k < records l) where
@@ -115,8 +115,8 @@ module _ (l r : List ℕ) where
 
 -- ---- a record that passes behind a good list
 
-module _ (l r : List ℕ) (g : listRefusal l ≡ 0) (p : behindRefusal l r ≡ 0) (s : length r ≡ sizeOf (kindOf r)) where
-  pub more-size : sizeOf (kindOf (l ++ r)) ≡ sizeOf (kindOf r)
+module _ (l r : List ℕ) (g : listRefusal l ≡ 0) (p : behindRefusal l r ≡ 0) (s : length r ≡ recordSize (kindOf r)) where
+  pub more-size : recordSize (kindOf (l ++ r)) ≡ recordSize (kindOf r)
   more-size = size-is (kindOf (l ++ r)) ∙ sym (size-is (kindOf r))
 
   pub more-place : placeOf (l ++ r) (records l) ≡ length l
@@ -155,14 +155,14 @@ front l k = take (placeOf l k) l
 module _ (l : List ℕ) (k : ℕ) where
   pub front-suc : front l (suc k) ≡ front l k ++ recordBytes (recordAt l k)
   unfolding recordAt
-  front-suc = rw (place-suc, record-size l k) (take-add (placeOf l k) (sizeOf (kindOf l)) l)
+  front-suc = rw (place-suc, record-size l k) (take-add (placeOf l k) (recordSize (kindOf l)) l)
 
   -- so many that are good, and one that passes behind them
   pub front-more : (listRefusal (front l k) ≡ 0) × (records (front l k) ≡ k) → recordRefusal l k ≡ 0
       → (listRefusal (front l (suc k)) ≡ 0) × (records (front l (suc k)) ≡ suc k)
   front-more f p =
-      let w : sizeOf (kindOf (recordAt l k)) ≤ length (recordAt l k) = record-passes l k p .body .whole in
-      let s : length (recordBytes (recordAt l k)) ≡ sizeOf (kindOf (recordBytes (recordAt l k))) = bytes-length (recordAt l k) w in
+      let w : recordSize (kindOf (recordAt l k)) ≤ length (recordAt l k) = record-passes l k p .body .whole in
+      let s : length (recordBytes (recordAt l k)) ≡ recordSize (kindOf (recordBytes (recordAt l k))) = bytes-length (recordAt l k) w in
       let r : behindRefusal (front l k) (recordBytes (recordAt l k)) ≡ 0 = bytes-refusal (recordAt l k) w (front l k) ∙ unfold recordRefusal in p in
       rw front-suc
       (more-good (front l k) (recordBytes (recordAt l k)) (f .0) r s, more-records (front l k) (recordBytes (recordAt l k)) (f .0) r s ∙ ap suc (f .1))

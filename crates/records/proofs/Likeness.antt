@@ -8,14 +8,14 @@ use lib.ListN.{length, drop, take-append-drop}
 use Rattle.records.proofs.Fronts.{kind-front, number-front}
 use Rattle.records.proofs.Goodness.{good-passes, record-front, front, front-sound}
 use Rattle.records.proofs.Walking.{last-same, last-le}
-use Rattle.records.specs.Record.{sizeOf, kindOf, numberOf, placeOf, recordAt, records, isRecord, recordOf, isFresh, faultIn, listRefusal}
+use Rattle.records.specs.Record.{recordSize, kindOf, numberIn, placeOf, recordAt, records, isRecord, recordOf, isFresh, faultIn, listRefusal}
 
 pub record Alike (x y : List ℕ) : Type 0 where
   pub kind : kindOf x ≡ kindOf y
-  pub number : numberOf x ≡ numberOf y
+  pub number : numberIn x ≡ numberIn y
 
 -- a whole record, and the same with bytes behind it
-pub alike-front : (x y : List ℕ) → sizeOf (kindOf x) ≤ length x → Alike x (x ++ y)
+pub alike-front : (x y : List ℕ) → recordSize (kindOf x) ≤ length x → Alike x (x ++ y)
 alike-front x y h = record { kind = sym (kind-front x y h); number = sym (number-front x y h) }
 
 pub record-alike : (x y : List ℕ) → Alike x y → (kind number : ℕ) → isRecord x kind number ≡ isRecord y kind number

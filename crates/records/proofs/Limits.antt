@@ -16,7 +16,7 @@ use Rattle.strlib.proofs.Refusing.{and-both}
 use Rattle.strlib.specs.Pointer.{all}
 use Rattle.cutting.proofs.Bounding.{trimmed-le, trimmed-padded}
 use Rattle.cutting.specs.Cutting.{trimmedLength}
-use Rattle.records.specs.Record.{headSize, widthOf, sizeOf, limitOf, isNumberOf, isName, earlier, padded}
+use Rattle.records.specs.Record.{headSize, widthOf, recordSize, limitOf, isNumberOf, isName, earlier, padded}
 
 -- ---- kinds and numbers
 
@@ -37,8 +37,8 @@ module _ (kind : ℕ) where
   unfolding widthOf
   width-is = refl
 
-  pub size-of : (w : ℕ) → w ≡ widthOf kind → headSize + w ≡ sizeOf kind
-  unfolding sizeOf
+  pub size-of : (w : ℕ) → w ≡ widthOf kind → headSize + w ≡ recordSize kind
+  unfolding recordSize
   size-of w e = rw e
 
   pub size-fits : (m w : ℕ) → m ≤ 9 → w ≡ widthOf kind → Fits w64 (m + w)

@@ -14,23 +14,23 @@ use Rattle.strlib.proofs.Refusing.{and-both}
 use Rattle.records.proofs.Goodness.{fault-first, record-room, record-size}
 use Rattle.records.proofs.Likeness.{fresh-front}
 use Rattle.records.proofs.Sizes.{size-least, records-is, records-reach, place-zero, place-suc, place-le}
-use Rattle.records.specs.Record.{sizeOf, kindOf, numberOf, placeOf, recordAt, records, isRecord, recordOf, isFresh, behindRefusal, recordRefusal}
+use Rattle.records.specs.Record.{recordSize, kindOf, numberIn, placeOf, recordAt, records, isRecord, recordOf, isFresh, behindRefusal, recordRefusal}
 use Rattle.records.specs.Record.{earlier, faultIn, listRefusal}
 use Rattle.records.specs.Walk.{lastOf}
 
 -- what a record is, as two equations
-pub record-yes : (x : List ℕ) (kind number : ℕ) → isRecord x kind number ≡ true → (kindOf x ≡ kind) × (numberOf x ≡ number)
+pub record-yes : (x : List ℕ) (kind number : ℕ) → isRecord x kind number ≡ true → (kindOf x ≡ kind) × (numberIn x ≡ number)
 unfolding isRecord
 record-yes x kind number e =
-    let b = and-both (eqb (kindOf x) kind) (eqb (numberOf x) number) e in
-    (eqb-true (kindOf x) kind (b .0), eqb-true (numberOf x) number (b .1))
+    let b = and-both (eqb (kindOf x) kind) (eqb (numberIn x) number) e in
+    (eqb-true (kindOf x) kind (b .0), eqb-true (numberIn x) number (b .1))
 
-pub record-no : (x : List ℕ) (kind number : ℕ) → isRecord x kind number ≡ false → kindOf x ≡ kind → numberOf x ≡ number → ⊥
+pub record-no : (x : List ℕ) (kind number : ℕ) → isRecord x kind number ≡ false → kindOf x ≡ kind → numberIn x ≡ number → ⊥
 unfolding isRecord
 record-no x kind number e f g = go (eqb (kindOf x) kind) refl e
   where
-    go : (b : Bool) → eqb (kindOf x) kind ≡ b → (b && eqb (numberOf x) number) ≡ false → ⊥
-    go true h i = eqb-false (numberOf x) number i g
+    go : (b : Bool) → eqb (kindOf x) kind ≡ b → (b && eqb (numberIn x) number) ≡ false → ⊥
+    go true h i = eqb-false (numberIn x) number i g
     go false h i = eqb-false (kindOf x) kind h f
 
 -- the first n records pass, and the next begins at `place`
@@ -57,11 +57,11 @@ module _ (l : List ℕ) (n place : ℕ) (r : Reached l n place) where
   reached-fresh kind number = rw (r .next) (fresh-front l n (r .sound) kind number)
 
   module _ (e : behindRefusal (take place l) (drop place l) ≡ 0) where
-    pub reached-next : Reached l (n + 1) (place + sizeOf (kindOf (drop place l)))
+    pub reached-next : Reached l (n + 1) (place + recordSize (kindOf (drop place l)))
     unfolding faultIn earlier recordAt
     reached-next =
         let z : recordRefusal l n ≡ 0 = sym here ∙ e in
-        let s : sizeOf (kindOf (drop place l)) ≡ sizeOf (kindOf l) = rw (r .next) (record-size l n) in
+        let s : recordSize (kindOf (drop place l)) ≡ recordSize (kindOf l) = rw (r .next) (record-size l n) in
         rw add-one
         record {
           sound = rw (r .sound) z;
@@ -85,10 +85,10 @@ module _ (l : List ℕ) (n place : ℕ) (r : Reached l n place) where
 
 -- a kind and number are new behind one record more where they are not its own, and were new
 pub fresh-next : (l : List ℕ) (n place : ℕ) → Reached l n place → behindRefusal (take place l) (drop place l) ≡ 0 → (kind number : ℕ)
-    → isFresh (take (place + sizeOf (kindOf (drop place l))) l) kind number ≡ (not (isRecord (drop place l) kind number) && isFresh (take place l) kind number)
+    → isFresh (take (place + recordSize (kindOf (drop place l))) l) kind number ≡ (not (isRecord (drop place l) kind number) && isFresh (take place l) kind number)
 unfolding recordOf lastOf recordAt
 fresh-next l n place r e kind number =
-    rw (reached-fresh l (n + 1) (place + sizeOf (kindOf (drop place l))) (reached-next l n place r e) kind number, reached-fresh l n place r kind number, add-one, r .next)
+    rw (reached-fresh l (n + 1) (place + recordSize (kindOf (drop place l))) (reached-next l n place r e) kind number, reached-fresh l n place r kind number, add-one, r .next)
     (go (isRecord (drop (placeOf l n) l) kind number))
   where
     go : (b : Bool) → eqb (cond b (suc n) (recordOf l kind number n)) 0 ≡ (not b && eqb (recordOf l kind number n) 0)

@@ -12,9 +12,9 @@ use mir.Val.{Fits}
 use borrow.Author.Needs.{needs}
 use Rattle.records.proofs.Sizes.{size-is}
 use Rattle.records.proofs.Walking.{seek-hit, seek-miss, seek-none}
-use Rattle.records.specs.Record.{sizeOf, kindOf, placeOf, recordAt, records, isRecord, recordOf}
+use Rattle.records.specs.Record.{recordSize, kindOf, placeOf, recordAt, records, isRecord, recordOf}
 
-module _ (l : List ℕ) (kind size : ℕ) (e : kind ≡ kindOf l) (f : size ≡ sizeOf kind) where
+module _ (l : List ℕ) (kind size : ℕ) (e : kind ≡ kindOf l) (f : size ≡ recordSize kind) where
   size-here : size ≡ 19
   size-here = f ∙ size-is kind
 

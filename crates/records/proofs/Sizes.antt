@@ -6,17 +6,17 @@ use Prim.Native.Nat.{ℕ, suc, _+_, _*_, _≤_, _<_}
 use native.Mathlib.Nat.{mul-zero, mul-suc, mul-le-mul-left}
 use native.Mathlib.Omega.{arith}
 use lib.ListN.{length}
-use Rattle.records.specs.Record.{headSize, widthOf, sizeOf, kindOf, placeOf, records}
+use Rattle.records.specs.Record.{headSize, widthOf, recordSize, kindOf, placeOf, records}
 
-pub size-is : (kind : ℕ) → sizeOf kind ≡ 19
-unfolding sizeOf widthOf
+pub size-is : (kind : ℕ) → recordSize kind ≡ 19
+unfolding recordSize widthOf
 size-is kind = refl
 
-pub size-least : (kind : ℕ) → 19 ≤ sizeOf kind
+pub size-least : (kind : ℕ) → 19 ≤ recordSize kind
 size-least kind = omega (arith, size-is kind)
 
-pub size-width : (kind : ℕ) → sizeOf kind ≡ headSize + widthOf kind
-unfolding sizeOf
+pub size-width : (kind : ℕ) → recordSize kind ≡ headSize + widthOf kind
+unfolding recordSize
 size-width kind = refl
 
 module _ (l : List ℕ) where
@@ -25,7 +25,7 @@ module _ (l : List ℕ) where
   unfolding placeOf records
   records-reach = rw (size-is (kindOf l)) (omega arith)
 
-  pub records-least : placeOf l (records l) < length l + sizeOf (kindOf l)
+  pub records-least : placeOf l (records l) < length l + recordSize (kindOf l)
   unfolding placeOf records
   records-least = rw (size-is (kindOf l)) (omega arith)
 
@@ -35,18 +35,18 @@ module _ (l : List ℕ) where
 
   pub place-zero : placeOf l 0 ≡ 0
   unfolding placeOf
-  place-zero = mul-zero (sizeOf (kindOf l))
+  place-zero = mul-zero (recordSize (kindOf l))
 
-  pub place-suc : (k : ℕ) → placeOf l (suc k) ≡ placeOf l k + sizeOf (kindOf l)
+  pub place-suc : (k : ℕ) → placeOf l (suc k) ≡ placeOf l k + recordSize (kindOf l)
   unfolding placeOf
-  place-suc k = mul-suc (sizeOf (kindOf l)) k
+  place-suc k = mul-suc (recordSize (kindOf l)) k
 
   pub place-le : (j k : ℕ) → j ≤ k → placeOf l j ≤ placeOf l k
   unfolding placeOf
-  place-le j k h = mul-le-mul-left (sizeOf (kindOf l)) h
+  place-le j k h = mul-le-mul-left (recordSize (kindOf l)) h
 
   -- one place and a record behind it
-  pub place-next : (j k : ℕ) → j < k → placeOf l j + sizeOf (kindOf l) ≤ placeOf l k
+  pub place-next : (j k : ℕ) → j < k → placeOf l j + recordSize (kindOf l) ≤ placeOf l k
   place-next j k h = rw place-suc at (place-le (suc j) k h)
 
   -- a record that is counted begins in the list
@@ -54,5 +54,5 @@ module _ (l : List ℕ) where
   place-begins k h = omega (arith, place-next k (records l) h, records-least)
 
 pub records-nil : records [] ≡ 0
-unfolding records sizeOf widthOf kindOf
+unfolding records recordSize widthOf kindOf
 records-nil = refl

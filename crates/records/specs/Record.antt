@@ -18,8 +18,8 @@ headSize = 3
 unfoldable pub widthOf : ℕ → ℕ
 widthOf kind = 16
 
-unfoldable pub sizeOf : ℕ → ℕ
-sizeOf kind = headSize + widthOf kind
+unfoldable pub recordSize : ℕ → ℕ
+recordSize kind = headSize + widthOf kind
 
 -- the kinds and their greatest numbers: 1, microphones, to 64; 2, loudspeakers, to 128; 0 for what is no kind
 unfoldable pub limitOf : ℕ → ℕ
@@ -41,15 +41,15 @@ unfoldable pub kindOf : List ℕ → ℕ
 kindOf rest = getD rest 0 0
 
 -- the high byte first
-unfoldable pub numberOf : List ℕ → ℕ
-numberOf rest = getD rest 1 0 * 256 + getD rest 2 0
+unfoldable pub numberIn : List ℕ → ℕ
+numberIn rest = getD rest 1 0 * 256 + getD rest 2 0
 
 unfoldable pub nameIn : List ℕ → List ℕ
 nameIn rest = take (widthOf (kindOf rest)) (drop headSize rest)
 
 -- record k, counted from 0, lies at k times the size of the first
 unfoldable pub placeOf : List ℕ → ℕ → ℕ
-placeOf l k = sizeOf (kindOf l) * k
+placeOf l k = recordSize (kindOf l) * k
 
 -- its bytes and all behind them
 unfoldable pub recordAt : List ℕ → ℕ → List ℕ
@@ -57,10 +57,10 @@ recordAt l k = drop (placeOf l k) l
 
 -- how many records begin in a list
 unfoldable pub records : List ℕ → ℕ
-records l = (length l + (sizeOf (kindOf l) - 1)) / sizeOf (kindOf l)
+records l = (length l + (recordSize (kindOf l) - 1)) / recordSize (kindOf l)
 
 unfoldable pub isRecord : List ℕ → ℕ → ℕ → Bool
-isRecord rest kind number = eqb (kindOf rest) kind && eqb (numberOf rest) number
+isRecord rest kind number = eqb (kindOf rest) kind && eqb (numberIn rest) number
 
 -- the record of a kind and number among the first n, counted from 1; 0 for none
 unfoldable pub recordOf : List ℕ → ℕ → ℕ → ℕ → ℕ
@@ -75,14 +75,14 @@ isFresh l kind number = eqb (recordOf l kind number (records l)) 0
 -- the record at the front of `rest` by itself, in this order: kind, short body, number, name
 abbrev pub bodyChecks : List ℕ → List (ℕ × Bool)
 bodyChecks rest =
-    (11, isKind (kindOf rest)) ∷ (11, leb (sizeOf (kindOf rest)) (length rest)) ∷ (12, isNumberOf (kindOf rest) (numberOf rest)) ∷ (2, isName (nameIn rest)) ∷ []
+    (11, isKind (kindOf rest)) ∷ (11, leb (recordSize (kindOf rest)) (length rest)) ∷ (12, isNumberOf (kindOf rest) (numberIn rest)) ∷ (2, isName (nameIn rest)) ∷ []
 
 unfoldable pub bodyRefusal : List ℕ → ℕ
 bodyRefusal rest = first (bodyChecks rest)
 
 -- and behind the list `met`, which has none of its kind and number
 abbrev pub behindChecks : List ℕ → List ℕ → List (ℕ × Bool)
-behindChecks met rest = bodyChecks rest ++ ((11, isFresh met (kindOf rest) (numberOf rest)) ∷ [])
+behindChecks met rest = bodyChecks rest ++ ((11, isFresh met (kindOf rest) (numberIn rest)) ∷ [])
 
 unfoldable pub behindRefusal : List ℕ → List ℕ → ℕ
 behindRefusal met rest = first (behindChecks met rest)
@@ -119,7 +119,7 @@ formChecks kind number name = keyChecks kind number ++ ((4, leb (length name) (w
 
 abbrev pub newChecks : List ℕ → ℕ → ℕ → ℕ → List ℕ → List (ℕ × Bool)
 newChecks l room kind number name =
-    formChecks kind number name ++ ((2, isName name) ∷ (11, isFresh l kind number) ∷ (6, leb (sizeOf kind) room) ∷ [])
+    formChecks kind number name ++ ((2, isName name) ∷ (11, isFresh l kind number) ∷ (6, leb (recordSize kind) room) ∷ [])
 
 unfoldable pub newRefusal : List ℕ → ℕ → ℕ → ℕ → List ℕ → ℕ
 newRefusal l room kind number name = first (newChecks l room kind number name)

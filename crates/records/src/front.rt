@@ -4,7 +4,7 @@ use strlib::StrPtr;
 ghost use mathlib.Core.Path.{_≡_};
 ghost use Prim.Native.Nat.{_+_, _*_};
 ghost use lib.ListN.{getD};
-ghost use Rattle.records.specs.Record.{kindOf, numberOf, nameIn, isRecord, bodyRefusal};
+ghost use Rattle.records.specs.Record.{kindOf, numberIn, nameIn, isRecord, bodyRefusal};
 
 fn byte_at(bytes: &[u8], i: usize) -> u8
     ensures { λ r. ⌜ r ≡ getD (now (bytes .entry)) i 0 ⌝ }
@@ -26,7 +26,7 @@ fn joined(high: u8, low: u8) -> usize
 }
 
 pub fn number_of(rest: &[u8]) -> usize
-    ensures { λ r. ⌜ r ≡ numberOf (now (rest .entry)) ⌝ }
+    ensures { λ r. ⌜ r ≡ numberIn (now (rest .entry)) ⌝ }
 {
     joined(byte_at(rest, 1), byte_at(rest, 2))
 }

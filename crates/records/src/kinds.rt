@@ -1,6 +1,6 @@
 // Kinds and their limits, and what a kind, a number and a name have to be.
 ghost use mathlib.Core.Path.{_≡_};
-ghost use Rattle.records.specs.Record.{widthOf, sizeOf, limitOf, isNumberOf, isName, keyRefusal};
+ghost use Rattle.records.specs.Record.{widthOf, recordSize, limitOf, isNumberOf, isName, keyRefusal};
 
 // The largest matrix.
 pub const MICROPHONES_MAX: usize = 64;
@@ -34,7 +34,7 @@ pub fn width_of(kind: u8) -> usize
 }
 
 pub fn size_of(kind: u8) -> usize
-    ensures { λ r. ⌜ r ≡ sizeOf kind ⌝ }
+    ensures { λ r. ⌜ r ≡ recordSize kind ⌝ }
 {
     HEAD + width_of(kind)
 }

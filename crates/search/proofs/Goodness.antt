@@ -18,7 +18,7 @@ use Rattle.search.specs.Search.{Result, nothing, found}
 use Rattle.search.specs.Occurrence.{stringOf, Earliest}
 use Rattle.search.specs.Inner.{Within}
 use Rattle.search.specs.Rule.{searchRefusal, sought, partsOf, splitOf, given, searchBy, searchRule, matchAfterRule, beforeMatchRule}
-use Rattle.search.specs.Whole.{Parts, Halves}
+use Rattle.search.specs.Whole.{Parts, Halves, FindsWhole}
 use Rattle.search.specs.declared.Match.{Match}
 use Rattle.search.specs.declared.Split.{Split}
 use Rattle.search.proofs.Meaning.{search-law}
@@ -113,14 +113,18 @@ module _ (s : List ℕ) (host : StrPtr) (l : List StrPtr) (c : ℕ) where
       go nothing q k z = let y : _≡_ {A = ℕ} 0 1 = cc in absurd (omega arith)
       go (found j pos1 pos2) q k z = let y : f j pos1 pos2 ≡ m = cc in rw y at (h j pos1 pos2 (sym (outcome-yes 0 _ (sym k) _ _ refl (sym q))))
 
-  pub search-parts : (m : Match) → searchRule s host l c ≡ gives (at m) → Parts s host (stringOf strings) m
+  search-parts : (m : Match) → searchRule s host l c ≡ gives (at m) → Parts s host (stringOf strings) m
   unfolding searchRule
   search-parts = by-found (Parts s host (stringOf strings)) (partsOf host) (λ j pos1 pos2 e. parts e)
 
-  pub match-after-halves : (m : Split) → matchAfterRule s host l c ≡ gives (at m) → Halves s host m
+  match-after-halves : (m : Split) → matchAfterRule s host l c ≡ gives (at m) → Halves s host m
   unfolding matchAfterRule
   match-after-halves = by-found (Halves s host) (λ j pos1 pos2. splitOf host j pos1) (λ j pos1 pos2 e. first-half e)
 
-  pub before-match-halves : (m : Split) → beforeMatchRule s host l c ≡ gives (at m) → Halves s host m
+  before-match-halves : (m : Split) → beforeMatchRule s host l c ≡ gives (at m) → Halves s host m
   unfolding beforeMatchRule
   before-match-halves = by-found (Halves s host) (λ j pos1 pos2. splitOf host j pos2) (λ j pos1 pos2 e. last-half e)
+
+pub finds-whole : FindsWhole
+finds-whole s host l c =
+    record { parts = search-parts s host l c; match-after = match-after-halves s host l c; before-match = before-match-halves s host l c }

@@ -10,7 +10,7 @@ use lib.ListN.{length, drop, getD}
 use lib.Seq.{drop-nil}
 use Rattle.search.proofs.Prefixes.{prefix-stands, stands-prefix}
 use Rattle.search.specs.Search.{isPrefix, firstNumber, closed, lengthOf, Result, nothing, found, onward, atFront, plainSearch}
-use Rattle.search.specs.Occurrence.{stringOf, listedAt, Earliest, Nowhere, SearchLaw}
+use Rattle.search.specs.Occurrence.{stringOf, listedAt, Earliest, Nowhere, SearchLaw, SearchLaws}
 
 -- ---- the first listed string that is a prefix
 
@@ -154,8 +154,8 @@ module _ (ss : List (List ℕ)) (h : List ℕ) where
       let z : e ≡ e′ = a .ends ∙ rw (x, y) (sym (b .ends)) in
       rw (x, y, z)
 
-  pub search-law : SearchLaw ss h
-  search-law =
+  law-of : SearchLaw ss h
+  law-of =
       record {
         found-is = λ j p e q. earliest (rw q at (best ss h));
         is-found = λ j p e a. is-found a (plainSearch ss h) (best ss h);
@@ -174,3 +174,6 @@ module _ (ss : List (List ℕ)) (h : List ℕ) where
       is-nothing : Nowhere ss h → (r : Result) → Best ss h r → r ≡ nothing
       is-nothing n nothing b = refl
       is-nothing n (found j p e) b = absurd (n j p (earliest b .occurs))
+
+pub search-law : SearchLaws
+search-law ss h = law-of ss h

@@ -1,4 +1,4 @@
--- What the functions inside the crate promise one another. Assumes nothing.
+-- What the functions inside the crate promise one another; `placed` also serves the table's run. Assumes nothing.
 use Prim.Native.Nat.{ℕ, zero, suc, _+_, _≤_}
 use Rattle.strlib.specs.Refusal.{Outcome, refused, gives}
 use Rattle.strlib.specs.declared.StrPtr.{StrPtr}

@@ -39,3 +39,7 @@ pub record SearchLaw (ss : List (List ℕ)) (host : List ℕ) : Type 0 where
   pub is-found : (j pos1 pos2 : ℕ) → Earliest ss host j pos1 pos2 → plainSearch ss host ≡ found j pos1 pos2
   pub nothing-is : plainSearch ss host ≡ nothing → Nowhere ss host
   pub is-nothing : Nowhere ss host → plainSearch ss host ≡ nothing
+
+-- of any strings and any host
+abbrev pub SearchLaws : Type 0
+SearchLaws = (ss : List (List ℕ)) (host : List ℕ) → SearchLaw ss host

@@ -1,4 +1,4 @@
--- Checks that calls share: each call's own list begins with one of these. Assumes nothing.
+-- Checks that copy, append and reverse_from begin with. Assumes nothing.
 use Prim.Native.Nat.{ℕ}
 use mathlib.Core.Bool.{Bool}
 use mathlib.Core.List.{List, [], _∷_}

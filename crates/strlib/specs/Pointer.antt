@@ -7,7 +7,7 @@ use lib.ListN.{length, take, drop}
 use Rattle.strlib.specs.declared.StrPtr.{StrPtr}
 
 -- every pointer of a rule is made by one of these three: from its start, length and maximum; in the same room with another length; and
--- as a part of a string, at a place of its own
+-- as a part of a string, at a place of its own, where what a pointer may be marked with is handed on
 unfoldable pub pointer : ℕ → ℕ → ℕ → StrPtr
 pointer a n m = record { start = a; length = n; maximum = m }
 

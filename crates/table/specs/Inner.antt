@@ -29,7 +29,7 @@ pub record Entered (ws : List ℕ) (size q n : ℕ) : Type 0 where
   pub long : 1 + 130 * size ≤ length ws
   pub near : n ≤ 65536
 
--- what they find before a state is entered
+-- what the checks find that are made before a state is entered
 unfoldable pub beforeRun : List ℕ → StrPtr → List ℕ → ℕ
 beforeRun s host ws = first (beforeChecks s host ws)
 

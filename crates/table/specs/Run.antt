@@ -19,7 +19,7 @@ sizeOf ws = getD ws 0 0
 abbrev pub wordOf : List ℕ → ℕ → ℕ → ℕ
 wordOf ws q k = getD ws (1 + 130 * q + k) 0
 
--- S is 2 to 242, and there are 1 + 130S words
+-- S is 2 to 242, and there are 1 + 130S words at least
 unfoldable pub isSized : List ℕ → Bool
 isSized ws = leb 2 (sizeOf ws) && (leb (sizeOf ws) 242 && leb (1 + 130 * sizeOf ws) (length ws))
 
@@ -66,7 +66,7 @@ abbrev pub ranOf : Walk → Result × ℕ
 ranOf bad = (nothing, 0)
 ranOf (rests q n r) = (r, n)
 
--- 10 in two parts: by the first word and the number of words, then as words are met
+-- the host's checks; then 10 in two parts: by the first word and the number of words, then as words are met
 abbrev pub beforeChecks : List ℕ → StrPtr → List ℕ → List (ℕ × Bool)
 beforeChecks s host ws = (3, storeFits s) ∷ (1, goodIn (length s) host) ∷ (2, readable s host) ∷ (10, isSized ws) ∷ []
 

@@ -1,7 +1,7 @@
 -- Laws of the call: its refusals, and the table from the rows. Assumes nothing.
 use mathlib.Core.Path.{_≡_, refl, sym, ap, _∙_}
-use mathlib.Core.Bool.{Bool, true}
-use mathlib.Core.List.{List, [], _∷_}
+use mathlib.Core.Bool.{true}
+use mathlib.Core.List.{List, []}
 use Prim.Native.Nat.{ℕ, zero, suc, _+_, _*_, _≤_, _<_, min}
 use native.Mathlib.Omega.{arith}
 use lib.Dec.{leb}
@@ -25,41 +25,37 @@ use Rattle.states.specs.State.{total, Represents}
 use Rattle.states.specs.Sure.{Sure}
 use Rattle.states.specs.Fill.{Rowed, Levels, Kept}
 use Rattle.translator.proofs.Rows.{ready-same}
-use Rattle.translator.specs.Translate.{listed, translateChecks, translateRefusal, Host, noteIn, Table, Words, Translated}
-use Rattle.translator.specs.Inner.{Ready, Rows, listChecks, listRefusal}
+use Rattle.translator.specs.Translate.{listed, sourceChecks, sizeChecks, translateChecks, translateRefusal, Host, noteIn, Table, Words, Translated}
+use Rattle.translator.specs.Inner.{Ready, Rows, sourceRefusal}
 
 -- ---- the refusals
 
 pub list-checked : (s : List ℕ) (list : List StrPtr) (count found₁ : ℕ) → found₁ ≡ also 0 3 (storeFits s)
     → (found₂ : ℕ) → found₂ ≡ also found₁ 3 (leb count 32) → (found₃ : ℕ) → found₃ ≡ also found₂ 1 (all (goodIn (length s)) (take count list))
-    → (found₄ : ℕ) → found₄ ≡ also found₃ 2 (all (readable s) (take count list)) → found₄ ≡ listRefusal s list count
-unfolding listRefusal
-list-checked s list count found₁ e₁ found₂ e₂ found₃ e₃ found₄ e₄ = first-is (listChecks s list count) refl found₄ (rw (e₄, e₃, e₂, e₁))
+    → (found₄ : ℕ) → found₄ ≡ also found₃ 2 (all (readable s) (take count list)) → found₄ ≡ sourceRefusal s list count
+unfolding sourceRefusal
+list-checked s list count found₁ e₁ found₂ e₂ found₃ e₃ found₄ e₄ = first-is (sourceChecks s list count) refl found₄ (rw (e₄, e₃, e₂, e₁))
 
 pub ruleset list-laws = (needs, list-checked)
 
 module _ (s : List ℕ) (list : List StrPtr) (count words : ℕ) where
-  -- the checks of the characters together, and of the words
-  abbrev sizes : List (ℕ × Bool)
-  sizes = (9, leb (total (listed s list count)) 240) ∷ (9, leb 31461 words) ∷ []
-
-  module _ (k : ℕ) (e : k ≡ listRefusal s list count) where
+  module _ (k : ℕ) (e : k ≡ sourceRefusal s list count) where
     pub list-refused : (k ≡ 0 → ⊥) → k ≡ translateRefusal s list count words
-    unfolding listRefusal translateRefusal
-    list-refused h = first-before (listChecks s list count) sizes k e h
+    unfolding sourceRefusal translateRefusal
+    list-refused h = first-before (sourceChecks s list count) (sizeChecks s list count words) k e h
 
     module _ (z : k ≡ 0) where
-      behind : translateRefusal s list count words ≡ first sizes
-      unfolding listRefusal translateRefusal
-      behind = first-behind (listChecks s list count) sizes refl (sym e ∙ z)
+      behind : translateRefusal s list count words ≡ first (sizeChecks s list count words)
+      unfolding sourceRefusal translateRefusal
+      behind = first-behind (sourceChecks s list count) (sizeChecks s list count words) refl (sym e ∙ z)
 
       pub list-few : count ≤ 32
-      unfolding listRefusal
-      list-few = leb-true _ _ (passed (listChecks s list count) refl (sym e ∙ z) .1 .0)
+      unfolding sourceRefusal
+      list-few = leb-true _ _ (passed (sourceChecks s list count) refl (sym e ∙ z) .1 .0)
 
       pub list-room : length s ≤ 65536
-      unfolding listRefusal
-      list-room = fits-is s (passed (listChecks s list count) refl (sym e ∙ z) .0)
+      unfolding sourceRefusal
+      list-room = fits-is s (passed (sourceChecks s list count) refl (sym e ∙ z) .0)
 
       module _ (n : ℕ) (en : n ≡ total (listed s list count)) where
         pub size-over : 240 < n → 9 ≡ translateRefusal s list count words

@@ -1,4 +1,4 @@
--- Demand 3: what the translator and the run do together. The claim is the last line, `Demand3`; proofs/Demand3 proves it. Assumes nothing.
+-- Demand 3: what the translator and the run do together. The claim is the last definition, `Demand3`; proofs/Demand3 proves it. Assumes nothing.
 use Prim.Native.Nat.{ℕ, _≤_}
 use mathlib.Core.Path.{_≡_}
 use mathlib.Core.Bool.{true}

@@ -1,25 +1,21 @@
 -- What the functions inside the crate ask of one another. Assumes nothing.
 use Prim.Native.Nat.{ℕ, _+_, _*_, _≤_, _<_}
 use mathlib.Core.Path.{_≡_}
-use mathlib.Core.Bool.{Bool, true}
-use mathlib.Core.List.{List, [], _∷_}
-use lib.Dec.{leb}
+use mathlib.Core.Bool.{true}
+use mathlib.Core.List.{List}
 use lib.ListN.{length, take, drop}
-use Rattle.strlib.specs.Pointer.{storeFits, goodIn, all, characters, readable}
+use Rattle.strlib.specs.Pointer.{all, characters}
 use Rattle.strlib.specs.Refusal.{first}
 use Rattle.strlib.specs.declared.StrPtr.{StrPtr}
 use Rattle.search.specs.Search.{closed}
 use Rattle.states.specs.Node.{at, reach}
 use Rattle.states.specs.State.{total, stateOf, IsNode, RowAt}
 use Rattle.states.specs.Fill.{Default, Short, Levels, Kept}
-use Rattle.translator.specs.Translate.{listed}
+use Rattle.translator.specs.Translate.{listed, sourceChecks}
 
--- the checks of the list alone
-abbrev pub listChecks : List ℕ → List StrPtr → ℕ → List (ℕ × Bool)
-listChecks s list count = (3, storeFits s) ∷ (3, leb count 32) ∷ (1, all (goodIn (length s)) (take count list)) ∷ (2, all (readable s) (take count list)) ∷ []
-
-unfoldable pub listRefusal : List ℕ → List StrPtr → ℕ → ℕ
-listRefusal s list count = first (listChecks s list count)
+-- what the checks of the list alone find
+unfoldable pub sourceRefusal : List ℕ → List StrPtr → ℕ → ℕ
+sourceRefusal s list count = first (sourceChecks s list count)
 
 -- a list that was not refused, and words for all its states
 pub record Ready (s : List ℕ) (list : List StrPtr) (count : ℕ) (ws : List ℕ) : Type 0 where

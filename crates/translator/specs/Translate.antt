@@ -2,7 +2,7 @@
 use Prim.Native.Nat.{ℕ, zero, suc, _+_, _*_, _≤_}
 use mathlib.Core.Path.{_≡_}
 use mathlib.Core.Bool.{Bool, true}
-use mathlib.Core.List.{List, [], _∷_}
+use mathlib.Core.List.{List, [], _∷_, _++_}
 use lib.Dec.{leb}
 use lib.ListN.{length, take, getD}
 use Rattle.strlib.specs.Pointer.{storeFits, goodIn, textOf, texts, all, readable}
@@ -19,11 +19,17 @@ use Rattle.translator.specs.declared.TranslateAnswer.the-variants.{Done,
 abbrev pub listed : List ℕ → List StrPtr → ℕ → List (List ℕ)
 listed s list count = texts s (take count list)
 
--- the store and the count; the listed pointers; their characters; at most 240 of them, and at least 31,461 words
+-- the store and the count; the listed pointers; their characters
+abbrev pub sourceChecks : List ℕ → List StrPtr → ℕ → List (ℕ × Bool)
+sourceChecks s list count =
+    (3, storeFits s) ∷ (3, leb count 32) ∷ (1, all (goodIn (length s)) (take count list)) ∷ (2, all (readable s) (take count list)) ∷ []
+
+-- at most 240 of them, and at least 31,461 words
+abbrev pub sizeChecks : List ℕ → List StrPtr → ℕ → ℕ → List (ℕ × Bool)
+sizeChecks s list count words = (9, leb (total (listed s list count)) 240) ∷ (9, leb 31461 words) ∷ []
+
 abbrev pub translateChecks : List ℕ → List StrPtr → ℕ → ℕ → List (ℕ × Bool)
-translateChecks s list count words =
-    (3, storeFits s) ∷ (3, leb count 32) ∷ (1, all (goodIn (length s)) (take count list)) ∷ (2, all (readable s) (take count list))
-    ∷ (9, leb (total (listed s list count)) 240) ∷ (9, leb 31461 words) ∷ []
+translateChecks s list count words = sourceChecks s list count ++ sizeChecks s list count words
 
 unfoldable pub translateRefusal : List ℕ → List StrPtr → ℕ → ℕ → ℕ
 translateRefusal s list count words = first (translateChecks s list count words)

@@ -9,7 +9,7 @@ ghost use lib.ListN.{length};
 ghost use Rattle.states.specs.State.{total, RowAt};
 ghost use Rattle.states.specs.Fill.{Stepped, Levels};
 ghost use Rattle.translator.specs.Translate.{listed, translateRefusal, translated, Table, Translated};
-ghost use Rattle.translator.specs.Inner.{Ready, Turn, Leveled, Rows, listRefusal};
+ghost use Rattle.translator.specs.Inner.{Ready, Turn, Leveled, Rows, sourceRefusal};
 ghost use Rattle.translator.specs.Common.{Alike, AlikeTo};
 
 // The row of the first l characters of x, if there are so many. Gives the state of the tail of one character more.
@@ -103,7 +103,7 @@ fn build(store: &[u8], list: StrList, count: usize, table: &mut [u16])
 }
 
 fn list_refusal(store: &[u8], list: StrList, count: usize) -> u8
-    ensures { λ r. ⌜ r ≡ listRefusal (now (store .entry)) list count ⌝ }
+    ensures { λ r. ⌜ r ≡ sourceRefusal (now (store .entry)) list count ⌝ }
 {
     let found = strlib::check_store(store);
     let found = strlib::check(found, 3, count <= StrPtr::LIST_MAX);

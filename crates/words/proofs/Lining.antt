@@ -12,7 +12,7 @@ use lib.Seq.{drop-drop}
 use Rattle.strlib.specs.Pointer.{pointer, textOf}
 use Rattle.words.specs.Ends.{upTo, endOf}
 use Rattle.words.specs.Words.{pointerOf}
-use Rattle.words.specs.Lines.{linesIn, lines, nextLine, walk}
+use Rattle.words.specs.Lines.{linesIn, lines, nextLine, walk, WalksLines}
 use Rattle.words.proofs.Wording.{upTo-take}
 
 module _ (s : List ℕ) (at e : ℕ) (q : e ≡ endOf 10 s at) where
@@ -93,5 +93,5 @@ walk-from (suc n) s at h = go (ltb at (length s)) refl (λ m. walk-from n s (nex
     go false e r = sym (line-none s at (ltb-false at (length s) e))
 
 -- a walk from the front gives exactly the lines
-pub walk-lines : (s : List ℕ) → walk (length s) s 0 ≡ lines s
+pub walk-lines : WalksLines
 walk-lines s = walk-from (length s) s 0 (omega arith)

@@ -1,5 +1,6 @@
 -- Lines: 01, "Cue lines and labels". A line ends before byte 10; a last unended line counts if it isn't empty. Assumes nothing.
 use Prim.Native.Nat.{ℕ, zero, suc, _+_}
+use mathlib.Core.Path.{_≡_}
 use mathlib.Core.Bool.{Bool, true, cond}
 use mathlib.Core.List.{List, [], _∷_, _++_}
 use lib.Dec.{eqb, ltb}
@@ -28,3 +29,7 @@ nextLine s at = record { from = at; to = endOf 10 s at; next = cond (ltb (endOf 
 unfoldable pub walk : ℕ → List ℕ → ℕ → List (List ℕ)
 walk zero s at = []
 walk (suc n) s at = cond (ltb at (length s)) (textOf s (pointerOf (nextLine s at)) ∷ walk n s (nextLine s at .next)) []
+
+-- walking from line to line gives exactly the lines
+abbrev pub WalksLines : Type 0
+WalksLines = (s : List ℕ) → walk (length s) s 0 ≡ lines s

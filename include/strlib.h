@@ -1,13 +1,14 @@
 /* Pathferrous: the calls of the string library and of the desk, for C.
  *
- * Every call takes any bytes, pointers and numbers and checks them itself. A refusal gives its number (README.md has the table), 0 being
- * none, and changes nothing that was lent. On a refusal all other fields of the answer are 0, down to those of a pointer or place in it,
- * but for what strlib_burst's answer carries: that is what was given (see strlib_burst_answer). Nothing found is no refusal; then too all
- * fields are 0, `found` with them, but for the number read in a strlib_note and for what a burst's run carries on.
+ * Every call takes any bytes, pointers and numbers and checks them itself. A refusal gives its number (README.md has
+ * the table), 0 being none, and changes nothing that was lent. On a refusal all other fields of the answer are 0, down
+ * to those of a pointer or place in it, but for what strlib_burst's answer carries: that is what was given (see
+ * strlib_burst_answer). Nothing found is no refusal; then too all fields are 0, `found` with them, but for the number
+ * read in a strlib_note and for what a burst's run carries on.
  *
- * Memory is lent as a pointer and a number of elements; with the number 0 the pointer may be NULL. What is lent to be written (a pointer
- * without const) shares no byte with anything else lent to the same call. Each call is proved to answer what its rule says, in
- * crates/<name>/specs.
+ * Memory is lent as a pointer and a number of elements; with the number 0 the pointer may be NULL. What is lent to be
+ * written (a pointer without const) shares no byte with anything else lent to the same call. Each call is proved to
+ * answer what its rule says, in crates/<name>/specs.
  */
 #ifndef STRLIB_H
 #define STRLIB_H
@@ -31,8 +32,8 @@ enum {
 
 /* ---- what is passed */
 
-/* A string in a store: where it starts (from 0), its length, and the maximum that its room takes. It is good if length <= maximum and
- * start + maximum <= the store's length. */
+/* A string in a store: where it starts (from 0), its length, and the maximum that its room takes. It is good if length
+ * <= maximum and start + maximum <= the store's length. */
 typedef struct { size_t start, length, maximum; } strlib_ptr;
 
 /* The first `count` of these, 0 to 32; the others are ignored. */
@@ -41,16 +42,18 @@ typedef struct { strlib_ptr items[STRLIB_LIST_MAX]; size_t count; } strlib_list;
 /* Where a checkpointed join resumes: a string of the list and a character of it, both from 1. */
 typedef struct { size_t string, character; } strlib_place;
 
-/* What a run carries from burst to burst: its state, the number of characters read, the total delivered, those after the stop included, its
- * last note if `noted` (else string, pos1 and pos2 say nothing), and whether it has stopped. The bools are C's, 0 or 1. */
+/* What a run carries from burst to burst: its state, the number of characters read, the total delivered, those after
+ * the stop included, its last note if `noted` (else string, pos1 and pos2 say nothing), and whether it has stopped. The
+ * bools are C's, 0 or 1. */
 typedef struct { size_t state, read, total; bool noted; size_t string, pos1, pos2; bool stopped; } strlib_carried;
 
 /* ---- what is answered */
 
 typedef struct { uint8_t refusal; strlib_ptr string; } strlib_string;
 
-/* yes or no; -1, 0 or 1 as string 1 is shorter than, as long as or longer than string 2; the position of the first unequal pair, or the
- * shorter length + 1 where only exact style's length rule decides, or 0 if nothing differs: for yes and no alike */
+/* yes or no; -1, 0 or 1 as string 1 is shorter than, as long as or longer than string 2; the position of the first
+ * unequal pair, or the shorter length + 1 where only exact style's length rule decides, or 0 if nothing differs: for
+ * yes and no alike */
 typedef struct { uint8_t refusal; bool yes; int8_t sign; size_t split; } strlib_comparison;
 
 /* the destination with its new length; completed if nothing was cut */
@@ -65,19 +68,22 @@ typedef struct { size_t offset, length; } strlib_part;
 /* the desk label: a part of the house name where `house`, else of the production name */
 typedef struct { bool house; size_t offset, length; } strlib_label;
 
-/* where found: the string's number in the list (from 1), and the host's parts: before, matched and the two together with maximum = length,
- * what goes to the host's end with the rest of its maximum. Nothing found: 0, and pointers of three times 0. */
+/* where found: the string's number in the list (from 1), and the host's parts: before, matched and the two together
+ * with maximum = length, what goes to the host's end with the rest of its maximum. Nothing found: 0, and pointers of
+ * three times 0. */
 typedef struct { uint8_t refusal; bool found; size_t number; strlib_ptr before, matched, after; } strlib_match;
 typedef struct { uint8_t refusal; bool found; size_t number; strlib_ptr front, back; } strlib_split;
 
-/* the last note of a table's run where there is one, `found`: string, start and end; without one these three are 0. `read` is the number of
- * characters read, found or not; on a refusal 0. A translated table's run reads at most one character past the first place at which the
- * answer is sure, whatever follows: for a list of no strings at most one. Refusal 2 is of the whole host, read or not. */
+/* the last note of a table's run where there is one, `found`: string, start and end; without one these three are 0.
+ * `read` is the number of characters read, found or not; on a refusal 0. A translated table's run reads at most one
+ * character past the first place at which the answer is sure, whatever follows: for a list of no strings at most one.
+ * Refusal 2 is of the whole host, read or not. */
 typedef struct { uint8_t refusal; bool found; size_t string, pos1, pos2, read; } strlib_note;
 
-/* What is carried on; noted, string, pos1, pos2 and read are the answer for all bursts taken so far (without a note the first four are 0).
- * On a refusal every field of `carried` is as it was given, string, pos1 and pos2 without a note too: a caller may go on from it, and then
- * a refused burst counts for nothing: the answers are those of the text without it. */
+/* What is carried on; noted, string, pos1, pos2 and read are the answer for all bursts taken so far (without a note the
+ * first four are 0). On a refusal every field of `carried` is as it was given, string, pos1 and pos2 without a note
+ * too: a caller may go on from it, and then a refused burst counts for nothing: the answers are those of the text
+ * without it. */
 typedef struct { uint8_t refusal; strlib_carried carried; } strlib_burst_answer;
 
 /* where found: a host character's code, which may be 0, and its position (from 1); nothing found: both 0 */
@@ -89,7 +95,8 @@ typedef struct { uint8_t refusal; size_t microphone, loudspeaker; int64_t gain; 
 
 typedef struct { uint8_t refusal; size_t value; } strlib_size;
 
-/* a lookup in the label list; where found: the trimmed name's place in it (from 0) and its length, 0 for a blank name; no record: both 0 */
+/* a lookup in the label list; where found: the trimmed name's place in it (from 0) and its length, 0 for a blank name;
+ * no record: both 0 */
 typedef struct { uint8_t refusal; bool found; size_t place, length; } strlib_name;
 
 /* ---- pointers */
@@ -116,12 +123,13 @@ strlib_part strlib_counted_part(const uint8_t *bytes, size_t bytes_length, size_
 strlib_part strlib_between_part(const uint8_t *bytes, size_t bytes_length, size_t pos1, size_t pos2);
 strlib_part strlib_trimmed_part(const uint8_t *bytes, size_t bytes_length);
 
-/* The label shown on the desk: the trimmed production name; the trimmed house name where the production name is all blanks or empty. */
+/* The label shown on the desk: the trimmed production name; the trimmed house name where the production name is all
+ * blanks or empty. */
 strlib_label strlib_desk_label(const uint8_t *production, size_t production_length, const uint8_t *house, size_t house_length);
 
-/* ---- copying: refusals 3, 1, 2, 5; join_from 3, 1, 2, 4, 5
- * The destination then holds the characters cut at its maximum; every byte past its new length stays. With `pad`, blanks fill a result that
- * is shorter than the old length up to it. */
+/* ---- copying: refusals 3, 1, 2, 5; join_from 3, 1, 2, 4, 5 The destination then holds the characters cut at its
+ * maximum; every byte past its new length stays. With `pad`, blanks fill a result that is shorter than the old length
+ * up to it. */
 
 strlib_copied strlib_copy(uint8_t *store, size_t store_length, strlib_ptr destination, strlib_ptr source, bool pad);
 strlib_copied strlib_append(uint8_t *store, size_t store_length, strlib_ptr destination, strlib_ptr source);
@@ -143,18 +151,19 @@ strlib_split strlib_search_match_after(const uint8_t *store, size_t store_length
 /* front before with match, back after */
 strlib_split strlib_search_before_match(const uint8_t *store, size_t store_length, strlib_ptr host, strlib_list list);
 
-/* ---- the search table: translate once (refusals 3, 1, 2, 9), run over any number of hosts (3, 1, 2, 10), also in bursts (3, 2, 10)
- * Translated, the table is its first 1 + 130 * S words, S being the first of them, 2 to 242; the words behind them stay. */
+/* ---- the search table: translate once (refusals 3, 1, 2, 9), run over any number of hosts (3, 1, 2, 10), also in
+ * bursts (3, 2, 10) Translated, the table is its first 1 + 130 * S words, S being the first of them, 2 to 242; the
+ * words behind them stay. */
 
 uint8_t strlib_translate(const uint8_t *store, size_t store_length, strlib_list list, uint16_t *table, size_t table_length);
 strlib_note strlib_run(const uint8_t *store, size_t store_length, strlib_ptr host, const uint16_t *table, size_t table_length);
 
-/* A host in bursts of 0 to 300 characters, 65,536 in all: from a fresh run, if none is refused and all are given the same table words, the
- * answer with the last burst, which may be empty, is the whole host's, however it was cut. A run that has not stopped enters its carried
- * state anew at each burst. Refusals, of a run that has stopped too: 3 (the burst's length; the total with it), 2, 10 (the table's size),
- * 10 (what is carried: a state that the table has not, state 0 and not stopped or another and stopped, a total under the number read, or a
- * note with string outside 1 to 32, pos2 over read + 1 or pos1 outside 1 to pos2); then, as words are met, 10. Any numbers may be given as
- * carried. */
+/* A host in bursts of 0 to 300 characters, 65,536 in all: from a fresh run, if none is refused and all are given the
+ * same table words, the answer with the last burst, which may be empty, is the whole host's, however it was cut. A run
+ * that has not stopped enters its carried state anew at each burst. Refusals, of a run that has stopped too: 3 (the
+ * burst's length; the total with it), 2, 10 (the table's size), 10 (what is carried: a state that the table has not,
+ * state 0 and not stopped or another and stopped, a total under the number read, or a note with string outside 1 to 32,
+ * pos2 over read + 1 or pos1 outside 1 to pos2); then, as words are met, 10. Any numbers may be given as carried. */
 strlib_carried strlib_fresh_run(void);
 strlib_burst_answer strlib_burst(strlib_carried carried, const uint8_t *burst, size_t burst_length, const uint16_t *table,
                                  size_t table_length);
@@ -180,22 +189,22 @@ strlib_string strlib_write_number(uint8_t *store, size_t store_length, strlib_pt
 
 /* ---- the desk */
 
-/* `MIC n TO LSP m GAIN g`, for a matrix of 1 to 64 by 1 to 128: refusals 3 (a line over 65,536 bytes, the sizes), 2, 11, then 7 or 8 from
- * left to right, 12 */
+/* `MIC n TO LSP m GAIN g`, for a matrix of 1 to 64 by 1 to 128: refusals 3 (a line over 65,536 bytes, the sizes), 2,
+ * 11, then 7 or 8 from left to right, 12 */
 strlib_cue strlib_read_cue(const uint8_t *line, size_t line_length, size_t microphones, size_t loudspeakers);
 
 /* how many records: refusals, record by record, 11 (kind, short body), 12, 2, 11 (repeated) */
 strlib_size strlib_read_labels(const uint8_t *list, size_t list_length);
 
-/* kind 1 microphone, 2 loudspeaker, one byte, so that C cuts a greater number down before the call sees it: the list's refusals, then 11
- * (kind), 12 */
+/* kind 1 microphone, 2 loudspeaker, one byte, so that C cuts a greater number down before the call sees it: the list's
+ * refusals, then 11 (kind), 12 */
 strlib_name strlib_find_label(const uint8_t *list, size_t list_length, uint8_t kind, size_t number);
 
 /* the same as a part: on a refusal or no record the empty part at the front */
 strlib_part strlib_label_name(const uint8_t *list, size_t list_length, uint8_t kind, size_t number);
 
-/* adds a record behind the list that is the buffer's first `length` bytes; the value is the list's new length. Refusals: 4 (length over the
- * buffer's), the list's, 11 (kind), 12, 4 (name over 16), 2, 11 (repeated), 6 */
+/* adds a record behind the list that is the buffer's first `length` bytes; the value is the list's new length.
+ * Refusals: 4 (length over the buffer's), the list's, 11 (kind), 12, 4 (name over 16), 2, 11 (repeated), 6 */
 strlib_size strlib_add_label(uint8_t *buffer, size_t buffer_length, size_t length, uint8_t kind, size_t number, const uint8_t *name,
                              size_t name_length);
 

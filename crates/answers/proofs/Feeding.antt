@@ -1,5 +1,5 @@
--- Laws of lines that come in pieces. A line is judged by its first 65,537 bytes, so that what is held of it may be cut there; the lines
--- answered so far and what is left are those of the part walked through. Assumes nothing.
+-- Laws of lines that come in pieces. A line is judged by its first 65,537 bytes, so that what is held of it may be cut
+-- there; the lines answered so far and what is left are those of the part walked through. Assumes nothing.
 use mathlib.Core.Path.{_≡_, refl, sym, ap, _∙_}
 use mathlib.Core.Bool.{Bool, true, false, cond}
 use mathlib.Core.List.{List, [], _∷_, _++_, append-nil}

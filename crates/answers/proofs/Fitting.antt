@@ -1,5 +1,5 @@
--- How long answers are at most: nothing is cut off where the buffer has 36 bytes for each byte of a piece, and 116 for the end.
--- Assumes nothing.
+-- How long answers are at most: nothing is cut off where the buffer has 36 bytes for each byte of a piece, and 116 for
+-- the end. Assumes nothing.
 use mathlib.Core.Path.{_≡_, refl}
 use mathlib.Core.Bool.{Bool, true, false, cond}
 use mathlib.Core.List.{List, [], _∷_, _++_}
@@ -16,7 +16,7 @@ use Rattle.desk.proofs.CueGiven.{cue-given, gain-small, cue-refused}
 use Rattle.desk.specs.Cue.{cueRule}
 use Rattle.desk.specs.declared.cue.Cue.{Cue}
 use Rattle.answers.specs.Text.{heading, okText, cueText, answerText, totalText}
-use Rattle.answers.specs.Program.{counted, answersText, goods, totals, ended, lastOf, endText}
+use Rattle.answers.specs.Program.{counted, answersText, goods, totals, ended, openLine, endText}
 
 -- ---- one answer
 
@@ -73,14 +73,14 @@ totals-fit : (n k : ℕ) → length (totals n k) ≤ 80
 unfolding totals totalText
 totals-fit n k = simp length-append (omega (arith, count-fits n, count-fits k, bad-fits n k))
 
-last-few : (q : List ℕ) → length (lastOf q) ≤ 1
-unfolding lastOf
+last-few : (q : List ℕ) → length (openLine q) ≤ 1
+unfolding openLine
 last-few [] = omega arith
 last-few (c ∷ cs) = omega arith
 
 pub end-fits : (n k : ℕ) (q : List ℕ) → length (endText n k q) ≤ 116
 unfolding endText
-end-fits n k q = rw length-append (omega (arith, answers-fit n (lastOf q), last-few q, totals-fit (n + length (lastOf q)) (k + goods (lastOf q))))
+end-fits n k q = rw length-append (omega (arith, answers-fit n (openLine q), last-few q, totals-fit (n + length (openLine q)) (k + goods (openLine q))))
 
 pub heading-fits : length heading ≤ 116
 unfolding heading

@@ -1,4 +1,5 @@
--- What is written from a place of the input on: the lines that end in pieces, and the last one, are the lines of the whole. Assumes nothing.
+-- What is written from a place of the input on: the lines that end in pieces, and the last one, are the lines of the
+-- whole. Assumes nothing.
 use mathlib.Core.Path.{_≡_, refl, sym, ap, _∙_}
 use mathlib.Core.Bool.{Bool, true, false, cond}
 use mathlib.Core.List.{List, [], _∷_, _++_, append-assoc, append-nil}
@@ -13,27 +14,27 @@ use Rattle.words.specs.Lines.{linesIn, lines}
 use Rattle.answers.proofs.Counting.{answers-append, goods-append}
 use Rattle.answers.proofs.Feeding.{ended-append, left-append}
 use Rattle.answers.specs.Text.{heading}
-use Rattle.answers.specs.Program.{answersText, goods, totals, programText, ended, left, lastOf, endText, openText}
+use Rattle.answers.specs.Program.{answersText, goods, totals, programText, ended, left, openLine, endText, openText}
 
 -- ---- the lines of an input are those that end and the last one
 
-pub lines-are : (s : List ℕ) → (ended [] s ++ lastOf (left [] s) ≡ lines s)
-    × ((x : ℕ) (p : List ℕ) → ended (x ∷ p) s ++ lastOf (left (x ∷ p) s) ≡ ((x ∷ p) ++ upTo 10 s) ∷ linesIn false s)
-unfolding ended left lastOf linesIn upTo
+pub lines-are : (s : List ℕ) → (ended [] s ++ openLine (left [] s) ≡ lines s)
+    × ((x : ℕ) (p : List ℕ) → ended (x ∷ p) s ++ openLine (left (x ∷ p) s) ≡ ((x ∷ p) ++ upTo 10 s) ∷ linesIn false s)
+unfolding ended left openLine linesIn upTo
 lines-are [] = (refl, λ x p. ap (λ (l : List ℕ). (x ∷ l) ∷ []) (sym (append-nil p)))
 lines-are (c ∷ cs) = (here (lines-are cs) (eqb c 10), λ x p. there (lines-are cs) x p (eqb c 10))
   where
-    here : (ended [] cs ++ lastOf (left [] cs) ≡ lines cs)
-        × ((x : ℕ) (p : List ℕ) → ended (x ∷ p) cs ++ lastOf (left (x ∷ p) cs) ≡ ((x ∷ p) ++ upTo 10 cs) ∷ linesIn false cs)
-        → (b : Bool) → cond b ([] ∷ ended [] cs) (ended (c ∷ []) cs) ++ lastOf (cond b (left [] cs) (left (c ∷ []) cs))
+    here : (ended [] cs ++ openLine (left [] cs) ≡ lines cs)
+        × ((x : ℕ) (p : List ℕ) → ended (x ∷ p) cs ++ openLine (left (x ∷ p) cs) ≡ ((x ∷ p) ++ upTo 10 cs) ∷ linesIn false cs)
+        → (b : Bool) → cond b ([] ∷ ended [] cs) (ended (c ∷ []) cs) ++ openLine (cond b (left [] cs) (left (c ∷ []) cs))
         ≡ cond b [] (c ∷ upTo 10 cs) ∷ linesIn b cs
     here r true = ap (λ (l : List (List ℕ)). [] ∷ l) (r .0)
     here r false = r .1 c []
 
-    there : (ended [] cs ++ lastOf (left [] cs) ≡ lines cs)
-        × ((x : ℕ) (p : List ℕ) → ended (x ∷ p) cs ++ lastOf (left (x ∷ p) cs) ≡ ((x ∷ p) ++ upTo 10 cs) ∷ linesIn false cs)
+    there : (ended [] cs ++ openLine (left [] cs) ≡ lines cs)
+        × ((x : ℕ) (p : List ℕ) → ended (x ∷ p) cs ++ openLine (left (x ∷ p) cs) ≡ ((x ∷ p) ++ upTo 10 cs) ∷ linesIn false cs)
         → (x : ℕ) (p : List ℕ) (b : Bool)
-        → cond b ((x ∷ p) ∷ ended [] cs) (ended (x ∷ (p ++ (c ∷ []))) cs) ++ lastOf (cond b (left [] cs) (left (x ∷ (p ++ (c ∷ []))) cs))
+        → cond b ((x ∷ p) ∷ ended [] cs) (ended (x ∷ (p ++ (c ∷ []))) cs) ++ openLine (cond b (left [] cs) (left (x ∷ (p ++ (c ∷ []))) cs))
         ≡ ((x ∷ p) ++ cond b [] (c ∷ upTo 10 cs)) ∷ linesIn b cs
     there r x p true = ap (λ (l : List (List ℕ)). (x ∷ p) ∷ l) (r .0) ∙ ap (λ (l : List ℕ). (x ∷ l) ∷ lines cs) (sym (append-nil p))
     there r x p false = r .1 x (p ++ (c ∷ [])) ∙ ap (λ (l : List ℕ). (x ∷ l) ∷ linesIn false cs) (append-snoc p c (upTo 10 cs))
@@ -62,7 +63,7 @@ pub rest-all : (s : List ℕ) → heading ++ rest 0 0 [] s ≡ programText s
 unfolding programText endText
 rest-all s =
     let e = ended [] s in
-    let f = lastOf (left [] s) in
+    let f = openLine (left [] s) in
     let g : 0 + goods e + goods f ≡ goods (e ++ f) = rw goods-append (omega arith) in
     let h : 0 + length e + length f ≡ length (e ++ f) = rw length-append (omega arith) in
     ap (λ (t : List ℕ). heading ++ t)

@@ -1,5 +1,6 @@
--- The run: pieces one behind the other write what the whole writes, since lines that end in pieces are the lines of the whole, and the
--- counters and the bytes held stand for the true ones; a run that has ended writes nothing more. Assumes nothing.
+-- The run: pieces one behind the other write what the whole writes, since lines that end in pieces are the lines of the
+-- whole, and the counters and the bytes held stand for the true ones; a run that has ended writes nothing more. Assumes
+-- nothing.
 use mathlib.Core.Path.{_≡_, refl, sym, ap, _∙_}
 use mathlib.Core.Bool.{Bool, true, false, cond, _&&_}
 use mathlib.Core.List.{List, [], _∷_, _++_, append-assoc, append-nil}
@@ -21,7 +22,7 @@ use Rattle.answers.proofs.Resting.{rest, rest-none, rest-more, rest-all
 use Rattle.answers.proofs.Totalling.{text-total}
 use Rattle.answers.proofs.Turning.{take-clamped}
 use Rattle.answers.specs.Text.{heading}
-use Rattle.answers.specs.Program.{counted, answersText, goods, totals, programText, ended, left, lastOf, endText, openText, totalIn}
+use Rattle.answers.specs.Program.{counted, answersText, goods, totals, programText, ended, left, openLine, endText, openText, totalIn}
 use Rattle.answers.specs.Run.{Stage, stage, telling, keptIn, endedIn, fed, finished, silent, readBy, afterRead, wrote, told, begun, Event, reading, turned, ran, output, input, endBy, metEnd, allDone, endingBy, endingOf, Roomy, opened, wholeOutput, RunWrites}
 use Rattle.answers.specs.declared.lines.State.{State}
 
@@ -43,8 +44,8 @@ none m l h k e = let f : length (take m []) ≡ length (take m l) = ap length e 
 
 module _ (m : ℕ) (big : 65536 < m) where
   last-alike : (q r : List ℕ) → take m q ≡ take m r → (n : ℕ)
-      → (answersText n (lastOf q) ≡ answersText n (lastOf r)) × ((length (lastOf q) ≡ length (lastOf r)) × (goods (lastOf q) ≡ goods (lastOf r)))
-  unfolding lastOf answersText goods
+      → (answersText n (openLine q) ≡ answersText n (openLine r)) × ((length (openLine q) ≡ length (openLine r)) × (goods (openLine q) ≡ goods (openLine r)))
+  unfolding openLine answersText goods
   last-alike [] [] e n = (refl, (refl, refl))
   last-alike [] (c ∷ r) e n = absurd (none m (c ∷ r) (omega arith) (omega arith) e)
   last-alike (c ∷ q) [] e n = absurd (none m (c ∷ q) (omega arith) (omega arith) (sym e))
@@ -55,10 +56,10 @@ unfolding endText
 end-stands s h n k q w =
     let p : List ℕ = take (s .held) h in
     let a = last-alike (length h) (omega (arith, w .size)) p q (w .held) n in
-    let b : answersText (s .lines) (lastOf p) ≡ answersText n (lastOf p) = answers-counted (s .lines) n (lastOf p) (sym (count-fixed n (s .lines) (w .lines)) ∙ w .lines) in
-    let c : counted (s .lines + length (lastOf p)) ≡ counted (n + length (lastOf q)) = count-again n (length (lastOf p)) (s .lines) (w .lines) ∙ rw (a .1 .0) in
-    let d : counted (s .ok + goods (lastOf p)) ≡ counted (k + goods (lastOf q)) = count-again k (goods (lastOf p)) (s .ok) (w .ok) ∙ rw (a .1 .1) in
-    rw (b, a .0, totals-stand (s .lines + length (lastOf p)) (n + length (lastOf q)) (s .ok + goods (lastOf p)) (k + goods (lastOf q)) c d)
+    let b : answersText (s .lines) (openLine p) ≡ answersText n (openLine p) = answers-counted (s .lines) n (openLine p) (sym (count-fixed n (s .lines) (w .lines)) ∙ w .lines) in
+    let c : counted (s .lines + length (openLine p)) ≡ counted (n + length (openLine q)) = count-again n (length (openLine p)) (s .lines) (w .lines) ∙ rw (a .1 .0) in
+    let d : counted (s .ok + goods (openLine p)) ≡ counted (k + goods (openLine q)) = count-again k (goods (openLine p)) (s .ok) (w .ok) ∙ rw (a .1 .1) in
+    rw (b, a .0, totals-stand (s .lines + length (openLine p)) (n + length (openLine q)) (s .ok + goods (openLine p)) (k + goods (openLine q)) c d)
 
 -- what is held behind a piece is what is left of it
 kept-left : (d p : List ℕ) (k : ℕ) (h : List ℕ)

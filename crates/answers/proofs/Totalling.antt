@@ -1,5 +1,5 @@
--- The total is the listing's last line: every line before it begins with a digit, or is the heading, and no text of a line has a line end
--- in it. Assumes nothing.
+-- The total is the listing's last line: every line before it begins with a digit, or is the heading, and no text of a
+-- line has a line end in it. Assumes nothing.
 use mathlib.Core.Path.{_≡_, refl, sym, ap, _∙_}
 use mathlib.Core.Bool.{Bool, true, false, cond, not, _&&_, _||_, false≢true, true≢false}
 use mathlib.Core.List.{List, [], _∷_, _++_, append-assoc, append-nil}

@@ -26,7 +26,7 @@ use Rattle.endings.specs.declared.Ending.{Ending}
 use Rattle.endings.specs.declared.Ending.the-variants.{Going, Complete, Unread}
 use Rattle.answers.proofs.Counting.{count-fits}
 use Rattle.answers.specs.Text.{heading, answerText, totalText}
-use Rattle.answers.specs.Program.{counted, goodOf, goods, totals, answersText, lastOf, endText, ended}
+use Rattle.answers.specs.Program.{counted, goodOf, goods, totals, answersText, openLine, endText, ended}
 use Rattle.answers.specs.Run.{stage, telling, keptIn, endedIn, fed, finished, silent, readBy, afterRead, wrote, begun}
 use Rattle.answers.specs.Inner.{Answered, Ready, Fed, anew}
 use Rattle.answers.specs.declared.lines.State.{State}
@@ -47,15 +47,15 @@ pub ruleset feed-laws = (needs, anew-ready, anew-fed)
 
 -- ---- the input's end
 
-full-last : (q : List ℕ) → 0 < length q → lastOf q ≡ q ∷ []
-unfolding lastOf
+full-last : (q : List ℕ) → 0 < length q → openLine q ≡ q ∷ []
+unfolding openLine
 full-last [] h = absurd (omega (arith, h))
 full-last (c ∷ cs) h = refl
 
 module _ (hold o : List ℕ) (s : State) where
   pub end-none : (o′ : List ℕ) (r : ℕ) → Fits w64 (s .lines) → Fits w64 (s .ok) → s .held ≤ 0 → (r, o′) ≡ grown o 0 (totalText (s .lines) (s .ok) (s .lines - s .ok))
       → (r, o′) ≡ grown o 0 (endText (s .lines) (s .ok) (take (s .held) hold))
-  unfolding endText lastOf answersText goods totals
+  unfolding endText openLine answersText goods totals
   end-none o′ r f k z g =
       let y : s .held ≡ 0 = omega arith in
       let e : take (s .held) hold ≡ [] = ap (λ (j : ℕ). take j hold) y in
@@ -68,7 +68,7 @@ module _ (hold o : List ℕ) (s : State) where
   end-last o1 o′ x t w r size h ew ev a g =
       let ex : x ≡ take (s .held) hold = ev ∙ ap (textOf hold) ew ∙ text-front hold (s .held) (s .held) in
       let i : 0 < length x = rw (ex, length-take) (omega arith) in
-      let l : lastOf x ≡ x ∷ [] = full-last x i in
+      let l : openLine x ≡ x ∷ [] = full-last x i in
       let m = grow-more o 0 o1 (t .out) o′ r (answerText (counted (s .lines + 1)) (cueRule x 64 128)) (totalText (t .lines) (t .ok) (t .lines - t .ok)) (a .text) g in
       rw (← ex, l, append-nil (answerText (counted (s .lines + 1)) (cueRule x 64 128)), add-zero (goodOf (cueRule x 64 128))) (rw (a .lines, a .ok) at m)
 

@@ -52,13 +52,13 @@ left p [] = p
 left p (c ∷ cs) = cond (eqb c 10) (left [] cs) (left (p ++ (c ∷ [])) cs)
 
 -- a last line without an end counts if it isn't empty
-unfoldable pub lastOf : List ℕ → List (List ℕ)
-lastOf [] = []
-lastOf (c ∷ cs) = (c ∷ cs) ∷ []
+unfoldable pub openLine : List ℕ → List (List ℕ)
+openLine [] = []
+openLine (c ∷ cs) = (c ∷ cs) ∷ []
 
 -- what is written at the input's end, behind n lines with k good ones, where q has no end
 unfoldable pub endText : ℕ → ℕ → List ℕ → List ℕ
-endText n k q = answersText n (lastOf q) ++ totals (n + length (lastOf q)) (k + goods (lastOf q))
+endText n k q = answersText n (openLine q) ++ totals (n + length (openLine q)) (k + goods (openLine q))
 
 -- what the program has written of an input whose end it has not met: an answer to each line that ended, and no total
 unfoldable pub openText : List ℕ → List ℕ
@@ -80,8 +80,8 @@ lastLine [] = []
 lastLine (l ∷ []) = l
 lastLine (l ∷ m ∷ ls) = lastLine (m ∷ ls)
 
--- the last line that ended begins with `total` in the whole text, and no line that ended does in any shorter front of it, nor in what is
--- written of an input whose end was not met
+-- the last line that ended begins with `total` in the whole text, and no line that ended does in any shorter front of
+-- it, nor in what is written of an input whose end was not met
 pub record TotalLast : Type 0 where
   pub whole : (input : List ℕ) → isTotal (lastLine (ended [] (programText input))) ≡ true
   pub shorter : (input : List ℕ) (n : ℕ) → n < length (programText input) → totalIn (ended [] (take n (programText input))) ≡ false

@@ -1,4 +1,5 @@
--- A run of the program: what its calls promise, turn by turn, and what the run writes. A turn is a read and a write. Assumes nothing.
+-- A run of the program: what its calls promise, turn by turn, and what the run writes. A turn is a read and a write.
+-- Assumes nothing.
 use Prim.Native.Nat.{ℕ, zero, suc, _+_, _*_, _≤_, min}
 use mathlib.Core.Path.{_≡_}
 use mathlib.Core.Bool.{Bool, true, false, cond, _&&_}
@@ -15,7 +16,8 @@ use Rattle.answers.specs.Program.{counted, goods, answersText, endText, 
 use Rattle.answers.specs.declared.lines.State.{State}
 use Rattle.answers.specs.declared.turns.Run.{Run}
 
--- where a run stands: the run itself, and what was lent to it: the bytes of a line that has no end yet, and the buffer of answers
+-- where a run stands: the run itself, and what was lent to it: the bytes of a line that has no end yet, and the buffer
+-- of answers
 pub record Stage : Type 0 where
   pub run : Run
   pub hold : List ℕ
@@ -30,8 +32,9 @@ telling s n = record { lines = s .lines; ok = s .ok; held = s .held; out = n }
 
 -- ---- a read
 
--- what is held of an unended line behind a piece, where k bytes of h were held and p came since: how many bytes, and the bytes lent for
--- it. The end of a line that was begun earlier is put behind its beginning; a line that is whole in the piece is not held.
+-- what is held of an unended line behind a piece, where k bytes of h were held and p came since: how many bytes, and
+-- the bytes lent for it. The end of a line that was begun earlier is put behind its beginning; a line that is whole in
+-- the piece is not held.
 unfoldable pub keptIn : ℕ → List ℕ → List ℕ → List ℕ → ℕ × List ℕ
 keptIn k h p [] = grown h k p
 keptIn k h p (c ∷ cs) = cond (eqb c 10) (keptIn 0 (cond (eqb k 0) h (grown h k p .1)) [] cs) (keptIn k h (p ++ (c ∷ [])) cs)
@@ -92,7 +95,8 @@ told g = take (g .run .state .out) (g .out)
 unfoldable pub begun : List ℕ → Run × List ℕ
 begun o = (record { state = record { lines = 0; ok = 0; held = 0; out = grown o 0 heading .0 }; ending = Going }, grown o 0 heading .1)
 
--- a turn, as seen from outside: what the bytes lent to the read were afterwards, what it answered, and whether all was written
+-- a turn, as seen from outside: what the bytes lent to the read were afterwards, what it answered, and whether all was
+-- written
 pub record Event : Type 0 where
   pub piece : List ℕ
   pub got : ℤ
@@ -115,7 +119,8 @@ output (e ∷ es) g = told (reading e g) ++ output es (turned e g)
 
 -- ---- what a run should do, from the turns alone
 
--- the bytes that were read, up to the input's end, a failed read or a failed write; `done` says that what was to be written before was
+-- the bytes that were read, up to the input's end, a failed read or a failed write; `done` says that what was to be
+-- written before was
 abbrev pub inputBy : ℤ → List ℕ → List ℕ → List ℕ
 inputBy (negsuc k) piece more = []
 inputBy (pos zero) piece more = []
@@ -140,18 +145,19 @@ abbrev pub allDone : List Event → Bool
 allDone [] = true
 allDone (e ∷ es) = e .done && allDone es
 
--- how the run ends: a failed write ends it whatever came before, else the input's end or a failed read does, and else it goes on
+-- how the run ends: a failed write ends it whatever came before, else the input's end or a failed read does, and else
+-- it goes on
 abbrev pub endingBy : ℤ → Bool → Ending → Ending
-endingBy (negsuc k) all more = cond all Unread Unwritten
-endingBy (pos zero) all more = cond all Complete Unwritten
-endingBy (pos (suc k)) all more = more
+endingBy (negsuc k) done more = cond done Unread Unwritten
+endingBy (pos zero) done more = cond done Complete Unwritten
+endingBy (pos (suc k)) done more = more
 
 abbrev pub endingOf : Bool → List Event → Ending
 endingOf done [] = cond done Going Unwritten
 endingOf done (e ∷ es) = cond done (endingBy (e .got) (e .done && allDone es) (endingOf (e .done) es)) Unwritten
 
--- an answer has at most 36 bytes: 20 digits of a counter, ` ok 64 128 -960` and a line end; the end 116: an answer, and the total's words
--- with three counters
+-- an answer has at most 36 bytes: 20 digits of a counter, ` ok 64 128 -960` and a line end; the end 116: an answer, and
+-- the total's words with three counters
 abbrev pub answerRoom : ℕ
 answerRoom = 36
 
@@ -170,8 +176,9 @@ opened done h o = record { run = wrote done (begun o .0); hold = h; out = begun 
 abbrev pub wholeOutput : Bool → List Event → List ℕ → List ℕ → List ℕ
 wholeOutput done es h o = take (begun o .0 .state .out) (begun o .1) ++ output es (opened done h o)
 
--- What it is told to write is the program's text of what was read: whole if the input's end was met, else without the unended line's answer
--- and the total. It ends as the turns tell, and is complete exactly if the end was met and every write took all.
+-- What it is told to write is the program's text of what was read: whole if the input's end was met, else without the
+-- unended line's answer and the total. It ends as the turns tell, and is complete exactly if the end was met and every
+-- write took all.
 pub record Writes (done : Bool) (es : List Event) (h o : List ℕ) : Type 0 where
   pub text : wholeOutput done es h o ≡ cond (metEnd done es) (programText (input done es)) (openText (input done es))
   pub total : totalIn (ended [] (wholeOutput done es h o)) ≡ metEnd done es

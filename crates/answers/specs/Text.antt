@@ -1,4 +1,5 @@
--- What the program writes: 01, "Cue lines and labels". Numbers are written in decimal, with the fewest digits. Assumes nothing.
+-- What the program writes: 01, "Cue lines and labels". Numbers are written in decimal, with the fewest digits. Assumes
+-- nothing.
 use Prim.Native.Nat.{ℕ}
 use mathlib.Core.List.{List, [], _∷_, _++_}
 use Rattle.number.specs.Written.{digits, written}
@@ -28,4 +29,4 @@ answerText number a = digits 10 number ++ cueText a ++ end
 
 -- `total 3 ok 1 refused 2`
 unfoldable pub totalText : ℕ → ℕ → ℕ → List ℕ
-totalText lines ok bad = (bytes "total " ++ digits 10 lines) ++ (bytes " ok " ++ digits 10 ok) ++ (bytes " refused " ++ digits 10 bad) ++ end
+totalText n good others = (bytes "total " ++ digits 10 n) ++ (bytes " ok " ++ digits 10 good) ++ (bytes " refused " ++ digits 10 others) ++ end

@@ -45,7 +45,7 @@ fn walk(part: &[u8], hold: &mut [u8], out: &mut [u8], s: State) -> State
 }
 
 // Answers the lines that end in a piece of the input, and holds what is left of it.
-pub fn feed(part: &[u8], hold: &mut [u8; 65537], out: &mut [u8], s: State) -> State
+pub fn feed(part: &[u8], hold: &mut [u8; super::HOLD], out: &mut [u8], s: State) -> State
     ensures { λ r. ⌜ Fed (anew s (length (now (hold .entry)))) (now (hold .entry)) (now (out .entry)) (now (part .entry)) r (now (hold .exit)) (now (out .exit)) ⌝ }
 {
     let t = State {
@@ -58,7 +58,7 @@ pub fn feed(part: &[u8], hold: &mut [u8; 65537], out: &mut [u8], s: State) -> St
 }
 
 // Answers a last line that has no end, and gives the total.
-pub fn finish(hold: &[u8; 65537], out: &mut [u8], s: State) -> usize
+pub fn finish(hold: &[u8; super::HOLD], out: &mut [u8], s: State) -> usize
     ensures { λ r. ⌜ (r, now (out .exit)) ≡ grown (now (out .entry)) 0 (endText (s .lines) (s .ok) (take (s .held) (now (hold .entry)))) ⌝ }
 {
     if 0 < s.held {

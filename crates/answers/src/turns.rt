@@ -1,4 +1,5 @@
-// A run of the program, turn by turn: what a read answered is taken in here, and so is whether a write took all its bytes.
+// A run of the program, turn by turn: what a read answered is taken in here, and so is whether a write took all its
+// bytes.
 use super::lines;
 use super::pieces;
 use endings::Ending;
@@ -43,7 +44,13 @@ pub fn begin(out: &mut [u8]) -> Run
 }
 
 // Goes on with what a read answered, the bytes that were lent to it being `piece`; the answers are to be written.
-pub fn after_read(got: isize, piece: &[u8], hold: &mut [u8; 65537], out: &mut [u8], run: Run) -> Run
+pub fn after_read(
+    got: isize,
+    piece: &[u8],
+    hold: &mut [u8; super::HOLD],
+    out: &mut [u8],
+    run: Run,
+) -> Run
     ensures { λ r. ⌜ stage r (now (hold .exit)) (now (out .exit)) ≡ afterRead got (now (piece .entry)) run (now (hold .entry)) (now (out .entry)) ⌝ }
 {
     let s = run.state;

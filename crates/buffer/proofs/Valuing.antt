@@ -1,4 +1,5 @@
--- The text of a number is what `number` writes into 12 bytes, which are room enough, so that only the range is left to refuse. Assumes nothing.
+-- The text of a number is what `number` writes into 12 bytes, which are room enough, so that only the range is left to
+-- refuse. Assumes nothing.
 use mathlib.Core.Path.{_≡_, refl, sym, ap, _∙_}
 use mathlib.Core.Bool.{true, false}
 use mathlib.Core.List.{List, []}

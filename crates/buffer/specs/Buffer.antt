@@ -8,8 +8,8 @@ use Rattle.number.specs.Limits.{inRange}
 use Rattle.number.specs.Written.{written}
 use Rattle.strlib.specs.Store.{put}
 
--- a text put behind the first n bytes of a buffer, cut where the buffer ends: how many bytes are there then, and the buffer afterwards,
--- in which every other byte is as it was
+-- a text put behind the first n bytes of a buffer, cut where the buffer ends: how many bytes are there then, and the
+-- buffer afterwards, in which every other byte is as it was
 unfoldable pub grown : List ℕ → ℕ → List ℕ → ℕ × List ℕ
 grown b n text = (min (n + length text) (length b), put b n (take (length b - n) text))
 

@@ -1,7 +1,8 @@
--- Laws of a burst's code: each return is a clause of the rule, and what was checked is what a run that goes on asks. Assumes nothing.
+-- Laws of a burst's code: each return is a clause of the rule, and what was checked is what a run that goes on asks.
+-- Assumes nothing.
 use mathlib.Core.Path.{_≡_, refl, sym, ap, _∙_}
 use mathlib.Core.Bool.{Bool, true, false, _&&_, cond, and-true, and-false}
-use mathlib.Core.List.{List, [], _∷_}
+use mathlib.Core.List.{List, [], _∷_, _++_}
 use Prim.Native.Nat.{ℕ, suc, _+_, _-_, _≤_, _<_}
 use native.Mathlib.Omega.{arith}
 use mir.Syntax.{w64}
@@ -10,8 +11,9 @@ use lib.Dec.{leb, ltb, eqb}
 use lib.ListN.{length}
 use borrow.Author.Needs.{needs}
 use borrow.Author.Tests.{leb-true, le-leb, lt-leb}
+use Rattle.strlib.proofs.Checking.{first-both}
 use Rattle.strlib.proofs.Pointing.{leb-same}
-use Rattle.strlib.proofs.Refusing.{and-both, first-is, Passed, passed, first-before, first-behind, outcome-no}
+use Rattle.strlib.proofs.Refusing.{and-both, first-is, passed, first-before, first-behind, outcome-no}
 use Rattle.strlib.specs.Pointer.{characters}
 use Rattle.strlib.specs.Refusal.{Outcome, refused, gives, first, also, outcome}
 use Rattle.search.specs.Search.{Result, nothing, found}
@@ -24,7 +26,7 @@ use Rattle.table.specs.Inner.{restsOf, walkedOf, noteOf}
 use Rattle.table.specs.declared.Progress.{Progress}
 use Rattle.table.specs.declared.Walked.{Walked}
 use Rattle.table.specs.declared.Walked.the-variants.{Rests, Bad}
-use Rattle.bursts.specs.Bursts.{carriedNote, carriedBy, isNote, agrees, isSound, isCarried, beforeBurstChecks, beforeBurst, walked, burstRefusal, carriedOn, burstRule}
+use Rattle.bursts.specs.Bursts.{carriedNote, carriedBy, isNote, agrees, isSound, isCarried, deliveryChecks, beforeBurstChecks, beforeBurst, walked, burstRefusal, carriedOn, burstRule}
 use Rattle.bursts.specs.Inner.{ownChecks, ownRefusal}
 use Rattle.bursts.specs.declared.Carried.{Carried}
 
@@ -125,6 +127,14 @@ sound-has c e =
     let b = and-both (leb (c .read) (c .total)) _ (a .1) in
     record { stopped = a .0; reads = leb-true _ _ (b .0); note = b .1 }
 
+-- what is known where the checks of a burst's delivery find nothing
+record Delivered (c : Carried) (b : List ℕ) : Type 0 where
+  pub total : c .total + length b ≤ 65536
+  pub plain : characters b ≡ true
+
+delivery-passed : (c : Carried) (b : List ℕ) → first (deliveryChecks c b) ≡ 0 → Delivered c b
+delivery-passed c b e = let ok = passed (deliveryChecks c b) refl e in record { total = leb-true _ _ (ok .1 .0); plain = ok .1 .1 .0 }
+
 -- what was checked where nothing is refused before the burst is read
 pub record Accepted (c : Carried) (b ws : List ℕ) : Type 0 where
   pub plain : characters b ≡ true
@@ -134,48 +144,49 @@ pub record Accepted (c : Carried) (b ws : List ℕ) : Type 0 where
 pub accepted : (c : Carried) (b ws : List ℕ) → beforeBurst c b ws ≡ 0 → Accepted c b ws
 unfolding beforeBurst isCarried
 accepted c b ws z =
-    let p = passed (beforeBurstChecks c b ws) refl z in
-    record { plain = p .1 .1 .0; sized = p .1 .1 .1 .0; sound = and-both (ltb (c .state) (sizeOf ws)) (isSound c) (p .1 .1 .1 .1 .0) .1 }
+    let own : List (ℕ × Bool) = (10, isSized ws) ∷ (10, ltb (c .state) (sizeOf ws) && isSound c) ∷ [] in
+    let d = first-both (deliveryChecks c b) own refl z in
+    let ok = passed own refl (d .1) in
+    record { plain = delivery-passed c b (d .0) .plain; sized = ok .0; sound = and-both (ltb (c .state) (sizeOf ws)) (isSound c) (ok .1 .0) .1 }
 
 -- what needs no table is refused in its place, with its number
-own-first : (a₁ a₂ a₃ sound sized state : Bool) (k : ℕ) → k ≡ first ((3, a₁) ∷ (3, a₂) ∷ (2, a₃) ∷ (10, sound) ∷ []) → (k ≡ 0 → ⊥)
-    → k ≡ first ((3, a₁) ∷ (3, a₂) ∷ (2, a₃) ∷ (10, sized) ∷ (10, state && sound) ∷ [])
-own-first false a₂ a₃ sound sized state k e h = e
-own-first true false a₃ sound sized state k e h = e
-own-first true true false sound sized state k e h = e
-own-first true true true true sized state k e h = absurd (h e)
-own-first true true true false false state k e h = e
-own-first true true true false true true k e h = e
-own-first true true true false true false k e h = e
+own-first : (cs : List (ℕ × Bool)) (sound sized state : Bool) (k : ℕ) → k ≡ first (cs ++ ((10, sound) ∷ [])) → (k ≡ 0 → ⊥)
+    → k ≡ first (cs ++ ((10, sized) ∷ (10, state && sound) ∷ []))
+own-first [] true sized state k e h = absurd (h e)
+own-first [] false false state k e h = e
+own-first [] false true true k e h = e
+own-first [] false true false k e h = e
+own-first ((n, true) ∷ cs) sound sized state k e h = own-first cs sound sized state k e h
+own-first ((n, false) ∷ cs) sound sized state k e h = e
 
 own-before : (c : Carried) (b ws : List ℕ) (k : ℕ) → k ≡ ownRefusal c b → (k ≡ 0 → ⊥) → k ≡ beforeBurst c b ws
 unfolding ownRefusal beforeBurst isCarried
 own-before c b ws k e h =
-    own-first (leb (length b) 300) (leb (c .total + length b) 65536) (characters b) (isSound c) (isSized ws) (ltb (c .state) (sizeOf ws)) k e h
+    own-first (deliveryChecks c b) (isSound c) (isSized ws) (ltb (c .state) (sizeOf ws)) k e h
 
 -- where that is passed, the words and the state decide
 module _ (c : Carried) (b : List ℕ) (z : ownRefusal c b ≡ 0) where
-  own-passed : Passed (ownChecks c b)
+  own-both : (first (deliveryChecks c b) ≡ 0) × (first ((10, isSound c) ∷ []) ≡ 0)
   unfolding ownRefusal
-  own-passed = passed (ownChecks c b) refl z
+  own-both = first-both (deliveryChecks c b) ((10, isSound c) ∷ []) refl z
+
+  delivered : Delivered c b
+  delivered = delivery-passed c b (own-both .0)
+
+  sound : isSound c ≡ true
+  sound = passed ((10, isSound c) ∷ []) refl (own-both .1) .0
 
   own-sound : Sound c
-  own-sound = sound-has c (own-passed .1 .1 .1 .0)
-
-  own-total : c .total + length b ≤ 65536
-  own-total = leb-true _ _ (own-passed .1 .0)
+  own-sound = sound-has c sound
 
   own-near : c .read + length b ≤ 65536
-  own-near = omega (arith, own-sound .reads, own-total)
-
-  own-plain : characters b ≡ true
-  own-plain = own-passed .1 .1 .0
+  own-near = omega (arith, own-sound .reads, delivered .total)
 
   own-decides : (ws : List ℕ) (on : Bool) → (isSized ws && ltb (c .state) (sizeOf ws)) ≡ on → beforeBurst c b ws ≡ cond on 0 10
   unfolding beforeBurst isCarried
   own-decides ws on e =
-      let p = own-passed in
-      rw (p .0, p .1 .0, p .1 .1 .0, p .1 .1 .1 .0) (go (isSized ws) (ltb (c .state) (sizeOf ws)) on e)
+      first-behind (deliveryChecks c b) ((10, isSized ws) ∷ (10, ltb (c .state) (sizeOf ws) && isSound c) ∷ []) refl (own-both .0)
+      ∙ rw sound (go (isSized ws) (ltb (c .state) (sizeOf ws)) on e)
     where
       go : (sized state on : Bool) → (sized && state) ≡ on → first ((10, sized) ∷ (10, state && true) ∷ []) ≡ cond on 0 10
       go false state on e = rw (← e)
@@ -220,7 +231,7 @@ module _ (c : Carried) (b ws : List ℕ) (k : ℕ) (e : k ≡ ownRefusal c b) wh
     burst-note = own-sound c b own .note
 
     pub burst-fits : Fits w64 (c .total + length b)
-    burst-fits = record { fits = omega (arith, own-total c b own) }
+    burst-fits = record { fits = omega (arith, delivered c b own .total) }
 
     decided : (on : Bool) → (isSized ws && ltb (c .state) (sizeOf ws)) ≡ on
         → burstRule c b ws ≡ answerAt (c .total + length b) (onlyIf on (readOn ws b (c .state) (c .read) (carriedNote c)))
@@ -232,7 +243,7 @@ module _ (c : Carried) (b ws : List ℕ) (k : ℕ) (e : k ≡ ownRefusal c b) wh
     goes-on : burstRule c b ws ≡ answerAt (c .total + length b) (resumed ws b (c .state) (c .read) (carriedNote c))
     goes-on =
         decided (isSized ws && ltb (c .state) (sizeOf ws)) refl
-        ∙ ap (answerAt (c .total + length b)) (sym (resumed-is ws b (c .state) (c .read) (carriedNote c) (own-plain c b own) (own-near c b own)))
+        ∙ ap (answerAt (c .total + length b)) (sym (resumed-is ws b (c .state) (c .read) (carriedNote c) (delivered c b own .plain) (own-near c b own)))
 
     module _ (p : Progress) (ep : restsOf p ≡ rests (c .state) (c .read) (carriedNote c)) (s : Walked)
         (d : walkedOf s ≡ resumed ws b (p .state) (p .read) (noteOf (p .last))) where

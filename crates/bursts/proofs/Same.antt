@@ -1,5 +1,5 @@
--- What a run carries is never refused: it rests in one of its states with a note that it can make. So bursts within the limits are refused exactly
--- if the whole run is, and over a translated table never. Assumes nothing.
+-- What a run carries is never refused: it rests in one of its states with a note that it can make. So bursts within the
+-- limits are refused exactly if the whole run is, and over a translated table never. Assumes nothing.
 use Prim.Native.Nat.{ℕ, zero, suc, _+_, _≤_, _<_}
 use mathlib.Core.Path.{_≡_, refl, sym, ap, _∙_}
 use mathlib.Core.Bool.{true, false}
@@ -12,7 +12,7 @@ use borrow.Author.Tests.{le-leb, lt-ltb, ne-eqb, eqb-false}
 use Rattle.strlib.proofs.Pointing.{fits-is, good-is, is-good, text-length}
 use Rattle.strlib.proofs.Refusing.{bool-case, and-both}
 use Rattle.strlib.proofs.Texts.{characters-append}
-use Rattle.strlib.specs.Pointer.{pointer, storeFits, goodIn, textOf, characters, readable}
+use Rattle.strlib.specs.Pointer.{pointer, storeFits, goodIn, textOf, characters, readable, joined}
 use Rattle.strlib.specs.Refusal.{Outcome, refused, gives}
 use Rattle.strlib.specs.declared.StrPtr.{StrPtr}
 use Rattle.search.specs.Search.{Result, nothing, found, plainSearch}
@@ -25,7 +25,7 @@ use Rattle.states.specs.Sure.{Sure}
 use Rattle.translator.proofs.Demand3.{noted}
 use Rattle.translator.specs.Translate.{Host, Table}
 use Rattle.bursts.specs.Bursts.{carriedNote, carriedBy, fresh, isNote, agrees, isSound, isCarried, beforeBurst, walked, burstRule, answerOf}
-use Rattle.bursts.specs.Whole.{andThen, bursts, lastAnswer, joined, Short, BurstsSame, CarriesAll, BurstsCarried, Searched, BurstsSearch}
+use Rattle.bursts.specs.Whole.{andThen, bursts, lastAnswer, Short, BurstsSame, CarriesAll, BurstsCarried, Searched, BurstsSearch}
 use Rattle.bursts.specs.declared.Carried.{Carried}
 use Rattle.bursts.proofs.Bursting.{answerAt, burst-yes, burst-no}
 use Rattle.bursts.proofs.Whole.{place, place-by, gives≢refused, took, again-walked, outcome-case}
@@ -118,6 +118,7 @@ module _ (ws : List ℕ) (sized : isSized ws ≡ true) where
       ∙ sym (ap ended (walk-append ws (sizeOf ws) b (joined bs) (enter ws (c .state) (c .read) (carriedNote c)))))
 
   rest-same : (bs : List (List ℕ)) (d : ℕ) → Short bs → d + length (joined bs) ≤ 65536 → characters (joined bs) ≡ true → Continues ws bs d
+  unfolding joined
   rest-same [] d short total plain = λ c k a. ap ended (sym (walk-none ws (sizeOf ws) (place c)))
   rest-same (b ∷ bs) d short total plain =
       let l : length (b ++ joined bs) ≡ length b + length (joined bs) = length-append b (joined bs) in
@@ -138,6 +139,7 @@ module _ (ws : List ℕ) where
       (rests-in ws b d c k) (well-noted ws b d c k) (reads-all ws b d c k)
 
   rest-carries : (bs : List (List ℕ)) (d : ℕ) (c c′ : Carried) → Runs ws d c → bursts c bs ws ≡ gives c′ → Runs ws (d + length (joined bs)) c′
+  unfolding joined
   rest-carries [] d c c′ k e =
       let z : c ≡ c′ = cc in
       let n : d + 0 ≡ d = omega arith in
@@ -155,6 +157,7 @@ unfolding fresh
 fresh-runs ws z = record { state = omega (arith, sized-is ws z .low); stopped = refl; total = refl; reads = omega arith; note = tt; unstopped = λ h. refl }
 
 pub bursts-carried : BurstsCarried
+unfolding joined
 bursts-carried ws b bs c e =
     outcome-case (burstRule fresh b ws)
     (λ n p. absurd (gives≢refused n c (rw p at e)))
@@ -168,7 +171,7 @@ bursts-carried ws b bs c e =
 -- the bursts joined as one text, whatever store holds it
 from-fresh : (ws b : List ℕ) (bs : List (List ℕ)) → isSized ws ≡ true → Short (b ∷ bs) → length (joined (b ∷ bs)) ≤ 65536 → characters (joined (b ∷ bs)) ≡ true
     → lastAnswer (bursts fresh (b ∷ bs) ws) ≡ ended (runOver ws (joined (b ∷ bs)))
-unfolding fresh
+unfolding fresh joined
 from-fresh ws b bs z short total plain =
     let l : length (b ++ joined bs) ≡ length b + length (joined bs) = length-append b (joined bs) in
     let p = and-both (characters b) (characters (joined bs)) (sym (characters-append b (joined bs)) ∙ plain) in
@@ -192,7 +195,7 @@ host-short : (s : List ℕ) (host : StrPtr) (h : List ℕ) → storeFits s ≡ t
 host-short s host h fits good is = omega (arith, ap length is, text-length s host good, good-is (length s) host good, fits-is s fits)
 
 pub bursts-same : BurstsSame
-unfolding readable
+unfolding readable joined
 bursts-same ws b bs s host short plain fits good is =
     let n : length (b ++ joined bs) ≤ 65536 = host-short s host (b ++ joined bs) fits good is in
     let l : length (b ++ joined bs) ≡ length b + length (joined bs) = length-append b (joined bs) in

@@ -1,5 +1,5 @@
--- The answer with the last burst is the whole host's: the bursts joined are walked as one text, since a state that was entered may be entered
--- anew. Assumes nothing.
+-- The answer with the last burst is the whole host's: the bursts joined are walked as one text, since a state that was
+-- entered may be entered anew. Assumes nothing.
 use Prim.Native.Nat.{ℕ, zero, suc, _+_}
 use mathlib.Core.Path.{_≡_, refl, sym, ap, _∙_}
 use mathlib.Core.Bool.{Bool, true}
@@ -10,7 +10,7 @@ use lib.ListN.{length}
 use borrow.Author.Tests.{eqb-true}
 use Rattle.strlib.proofs.Refusing.{outcome-no}
 use Rattle.strlib.proofs.Texts.{characters-append}
-use Rattle.strlib.specs.Pointer.{all, characters, readable}
+use Rattle.strlib.specs.Pointer.{all, characters, readable, joined}
 use Rattle.strlib.specs.Refusal.{Outcome, refused, gives, outcome}
 use Rattle.search.specs.Search.{Result, nothing, found}
 use Rattle.table.proofs.Pieces.{walk-append, run-is, again, again-enter, again-walk}
@@ -19,7 +19,7 @@ use Rattle.table.proofs.Walking.{enter-stop, walk-none, walk-stop}
 use Rattle.table.specs.Run.{sizeOf, Walk, bad, rests, enter, walk, runOver}
 use Rattle.table.specs.Inner.{ended}
 use Rattle.bursts.specs.Bursts.{carriedNote, carriedBy, fresh, agrees, beforeBurst, walked, burstRule}
-use Rattle.bursts.specs.Whole.{bursts, joined, BurstsWhole, BurstsTaken, AfterStop}
+use Rattle.bursts.specs.Whole.{bursts, BurstsWhole, BurstsTaken, AfterStop}
 use Rattle.bursts.specs.declared.Carried.{Carried}
 use Rattle.bursts.proofs.Bursting.{Accepted, accepted, sound-has, answerAt, burst-yes, burst-no}
 
@@ -74,7 +74,7 @@ record Ends (ws h : List ℕ) (c c′ : Carried) : Type 0 where
   pub same : walk ws (sizeOf ws) h (place c) ≡ place c′
 
 rest-ends : (ws : List ℕ) (bs : List (List ℕ)) (c c′ : Carried) → again ws (place c) ≡ place c → bursts c bs ws ≡ gives c′ → Ends ws (joined bs) c c′
-unfolding characters all
+unfolding characters all joined
 rest-ends ws [] c c′ a e = let z : c ≡ c′ = cc in record { plain = refl; same = walk-none ws (sizeOf ws) (place c) ∙ ap place z }
 rest-ends ws (b ∷ bs) c c′ a e =
     outcome-case (burstRule c b ws)
@@ -91,7 +91,7 @@ unfolding walked fresh
 fresh-over ws b h c c′ p q = run-is ws (b ++ h) ∙ walk-append ws (sizeOf ws) b h (enter ws 1 0 nothing) ∙ ap (walk ws (sizeOf ws) h) p ∙ q
 
 pub bursts-whole : BurstsWhole
-unfolding readable
+unfolding readable joined
 bursts-whole ws b bs c s host e fits good is =
     outcome-case (burstRule fresh b ws)
     (λ k p. absurd (gives≢refused k c (rw p at e)))

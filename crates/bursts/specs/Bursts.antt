@@ -1,5 +1,5 @@
--- The run of a table over a host that comes in bursts: 02, W5. What a run carries is the code's `Carried`: state, number read, total delivered,
--- note, and whether it has stopped. Assumes nothing.
+-- The run of a table over a host that comes in bursts: 02, W5. What a run carries is the code's `Carried`: state,
+-- number read, total delivered, note, and whether it has stopped. Assumes nothing.
 use Prim.Native.Nat.{ℕ, suc, _+_}
 use mathlib.Core.Bool.{Bool, true, false, _&&_, cond}
 use mathlib.Core.List.{List, [], _∷_, _++_}
@@ -14,11 +14,11 @@ use Rattle.bursts.specs.declared.Carried.{Carried}
 use Rattle.bursts.specs.declared.BurstAnswer.{BurstAnswer}
 use Rattle.bursts.specs.declared.BurstAnswer.the-variants.{Carries, Refused}
 
--- the note carried, if there is one: without one string, pos1 and pos2 say nothing
+-- the note carried, if there is one: where there is none, string, pos1 and pos2 say nothing
 abbrev pub carriedNote : Carried → Result
 carriedNote c = cond (c .noted) (found (c .string) (c .pos1) (c .pos2)) nothing
 
--- what is carried in state q with n read, d delivered and the note r: without one string, pos1 and pos2 are 0
+-- what is carried in state q with n read, d delivered and the note r; where there is none, string, pos1 and pos2 are 0
 abbrev pub carriedBy : ℕ → ℕ → ℕ → Result → Bool → Carried
 carriedBy q n d nothing stopped =
     record { state = q; read = n; total = d; noted = false; string = 0; pos1 = 0; pos2 = 0; stopped = stopped }
@@ -58,7 +58,8 @@ beforeBurstChecks c burst ws = deliveryChecks c burst ++ ((10, isSized ws) ∷ (
 unfoldable pub beforeBurst : Carried → List ℕ → List ℕ → ℕ
 beforeBurst c burst ws = first (beforeBurstChecks c burst ws)
 
--- the carried state is entered anew, and the burst is read; a run that has stopped enters and reads nothing (`enter` and `walk` leave state 0)
+-- the carried state is entered anew, and the burst is read; a run that has stopped enters and reads nothing (`enter`
+-- and `walk` do nothing in state 0)
 unfoldable pub walked : Carried → List ℕ → List ℕ → Walk
 walked c burst ws = readOn ws burst (c .state) (c .read) (carriedNote c)
 
@@ -69,7 +70,8 @@ burstChecks c burst ws = beforeBurstChecks c burst ws ++ ((10, isRest (walked c 
 unfoldable pub burstRefusal : Carried → List ℕ → List ℕ → ℕ
 burstRefusal c burst ws = first (burstChecks c burst ws)
 
--- what is carried on, with d delivered, from where the run rests; words that are no table are refused, and of them this says nothing
+-- what is carried on, with d delivered, from where the run rests; words that are no table are refused, and of them this
+-- says nothing
 abbrev pub carriedOn : ℕ → Walk → Carried
 carriedOn d bad = fresh
 carriedOn d (rests q n r) = carriedBy q n d r (eqb q 0)

@@ -1,4 +1,5 @@
--- Bursts on the definitions: what is carried on, and edges of what is refused (all of them are run in rust/tests). Assumes nothing.
+-- Bursts on the definitions: what is carried on, and edges of what is refused (all of them are run in rust/tests).
+-- Assumes nothing.
 use Prim.Native.Nat.{ℕ}
 use mathlib.Core.Path.{_≡_, refl}
 use mathlib.Core.Bool.{true, false}
@@ -13,8 +14,8 @@ use Rattle.table.specs.Run.{isSized, enter, step, walk}
 use Rattle.bursts.specs.Bursts.{carriedBy, fresh, isNote, agrees, isSound, isCarried, walked, burstRefusal, burstRule}
 use Rattle.bursts.specs.Whole.{bursts}
 
--- three states: state 0's words are 999 and never read; every character leads from state 1, which has no string, to state 2, which has f and L,
--- and from there to `next`
+-- three states: state 0's words are 999 and never read; every character leads from state 1, which has no string, to
+-- state 2, which has f and L, and from there to `next`
 abbrev three : ℕ → ℕ → ℕ → List ℕ
 three next f l = 3 ∷ replicate 130 999 ++ replicate 128 2 ++ (0 ∷ 0 ∷ []) ++ replicate 128 next ++ (f ∷ l ∷ [])
 

@@ -4,7 +4,7 @@ use mathlib.Core.Path.{_≡_}
 use mathlib.Core.Bool.{true, false}
 use mathlib.Core.List.{List, [], _∷_, _++_}
 use lib.ListN.{length, take}
-use Rattle.strlib.specs.Pointer.{characters, textOf, storeFits, goodIn}
+use Rattle.strlib.specs.Pointer.{characters, textOf, storeFits, goodIn, joined}
 use Rattle.strlib.specs.Refusal.{Outcome, refused, gives, outcome}
 use Rattle.strlib.specs.declared.StrPtr.{StrPtr}
 use Rattle.search.specs.Search.{Result, plainSearch}
@@ -28,12 +28,8 @@ abbrev pub lastAnswer : Outcome Carried → Outcome (Result × ℕ)
 lastAnswer (refused k) = refused k
 lastAnswer (gives c) = gives (answerOf c)
 
--- the whole host
-abbrev pub joined : List (List ℕ) → List ℕ
-joined [] = []
-joined (b ∷ bs) = b ++ joined bs
-
--- any words: from a fresh run, one burst at least, none refused, the last answer is the one that the whole host gives, however it was cut
+-- any words: from a fresh run, one burst at least, none refused, the last answer is the one that the whole host gives,
+-- however it was cut
 abbrev pub BurstsWhole : Type 0
 BurstsWhole =
     (ws b : List ℕ) (bs : List (List ℕ)) (c : Carried) (s : List ℕ) (host : StrPtr)
@@ -46,8 +42,9 @@ abbrev pub Short : List (List ℕ) → Type 0
 Short [] = Unit {0}
 Short (b ∷ bs) = (length b ≤ 300) × Short bs
 
--- a host of characters, cut into bursts of at most 300: one of them is refused exactly if the whole run is, with the same number, and else the last
--- answer is the whole run's. (The bursts up to any one are bursts too: so the refused burst is the first with which the whole run is refused)
+-- a host of characters, cut into bursts of at most 300: one of them is refused exactly if the whole run is, with the
+-- same number, and else the last answer is the whole run's. (The bursts up to any one are bursts too: so the refused
+-- burst is the first with which the whole run is refused)
 abbrev pub BurstsSame : Type 0
 BurstsSame =
     (ws b : List ℕ) (bs : List (List ℕ)) (s : List ℕ) (host : StrPtr)
@@ -55,7 +52,8 @@ BurstsSame =
     → storeFits s ≡ true → goodIn (length s) host ≡ true → textOf s host ≡ joined (b ∷ bs)
     → lastAnswer (bursts fresh (b ∷ bs) ws) ≡ runRule s host ws
 
--- so what a run carries is no fault, as long as its words stay the same; its total is the bursts', and unless it has stopped it has read them all
+-- so what a run carries is no fault, as long as its words stay the same; its total is the bursts', and unless it has
+-- stopped it has read them all
 pub record CarriesAll (ws : List ℕ) (bs : List (List ℕ)) (c : Carried) : Type 0 where
   pub carried : isCarried (sizeOf ws) c ≡ true
   pub total : c .total ≡ length (joined bs)
@@ -86,14 +84,16 @@ taken c (b ∷ bs) ws = ifTaken (burstRule c b ws) b ++ taken (kept c (burstRule
 abbrev pub BurstsTaken : Type 0
 BurstsTaken = (ws : List ℕ) (bs : List (List ℕ)) (c : Carried) → bursts c (taken c bs ws) ws ≡ gives (carriedPast c bs ws)
 
--- after the stop a burst is checked like any other, and no word of a state is met: state, number read and note stay, and the total grows
+-- after the stop a burst is checked like any other, and no word of a state is met: state, number read and note stay,
+-- and the total grows
 abbrev pub AfterStop : Type 0
 AfterStop =
     (c : Carried) (b ws : List ℕ) → c .stopped ≡ true
     → burstRule c b ws ≡ outcome (beforeBurst c b ws) (carriedBy 0 (c .read) (c .total + length b) (carriedNote c) true)
 
--- bursts over a table of the strings ss: none is refused, the last note is the plain search's answer for them joined, at most one character is
--- read past any place at which that answer is sure, and where more was delivered the run has stopped: what is noted can be told, and stays
+-- bursts over a table of the strings ss: none is refused, the last note is the plain search's answer for them joined,
+-- at most one character is read past any place at which that answer is sure, and where more was delivered the run has
+-- stopped: what is noted can be told, and stays
 pub record Searched (ss : List (List ℕ)) (words : List ℕ) (bs : List (List ℕ)) : Type 0 where
   pub last : Carried
   pub carries : bursts fresh bs words ≡ gives last

@@ -1,4 +1,5 @@
-// The run of a search table over a host that comes in bursts: 02, W5. What is carried goes by value, so that a refused burst leaves it as it was.
+// The run of a search table over a host that comes in bursts: 02, W5. What is carried goes by value, so that a refused
+// burst leaves it as it was.
 mod carrying;
 
 use strlib::StrPtr;
@@ -7,7 +8,8 @@ ghost use mathlib.Core.Path.{_≡_};
 ghost use Rattle.bursts.specs.Bursts.{fresh, burstAnswered, burstRule};
 ghost use Rattle.bursts.specs.Inner.{ownRefusal};
 
-// What a run carries from burst to burst; unless `noted`, string, pos1 and pos2 say nothing. It crosses the C boundary as it is.
+// What a run carries from burst to burst; unless `noted`, string, pos1 and pos2 say nothing. It crosses the C boundary
+// as it is.
 #[repr(C)]
 pub struct Carried {
     pub state: usize,
@@ -62,8 +64,8 @@ fn own_refusal(carried: Carried, burst: &[u8]) -> u8
     strlib::check(found, 10, carrying::is_sound(carried))
 }
 
-// One burst of a host. A run that has not stopped enters its carried state anew, for an empty burst too. Whether the words have a table's size and
-// the carried state is tested by `resume`, before it reads anything: 10 in either case.
+// One burst of a host. A run that has not stopped enters its carried state anew, for an empty burst too. Whether the
+// words have a table's size and the carried state is tested by `resume`, before it reads anything: 10 in either case.
 pub fn burst(carried: Carried, burst: &[u8], table: &[u16]) -> BurstAnswer
     ensures { λ r. ⌜ burstAnswered r ≡ burstRule carried (now (burst .entry)) (now (table .entry)) ⌝ }
 {

@@ -1,4 +1,5 @@
--- Laws of the answers: the checks made in turn give the refusal, and what the loops did gives the answer. Assumes nothing.
+-- Laws of the answers: the checks made in turn give the refusal, and what the loops did gives the answer. Assumes
+-- nothing.
 use Prim.Native.Nat.{ℕ}
 use mathlib.Core.Path.{_≡_, refl, sym, ap, _∙_}
 use mathlib.Core.Bool.{Bool, true}

@@ -1,5 +1,5 @@
--- What the writers do to each bit: the digits of `bitOr`, `bitAnd` and of a complement follow digit by digit, and the blocks word by word.
--- Assumes nothing.
+-- What the writers do to each bit: the digits of `bitOr`, `bitAnd` and of a complement follow digit by digit, and the
+-- blocks word by word. Assumes nothing.
 use Prim.Native.Nat.{ℕ, zero, suc, _-_, _*_, _/_, _%_, _^_, _≤_, _<_, min, max}
 use mathlib.Core.Path.{_≡_, refl, sym, ap, _∙_}
 use mathlib.Core.Bool.{Bool, true, false, cond, _||_, true≢false, false≢true}

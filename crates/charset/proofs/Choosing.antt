@@ -1,4 +1,5 @@
--- Laws of the two searches: forwards what is left is behind the characters passed, backwards in front of them. Assumes nothing.
+-- Laws of the two searches: forwards what is left is behind the characters passed, backwards in front of them. Assumes
+-- nothing.
 use Prim.Native.Nat.{ℕ, suc, _+_, _-_, _≤_, _<_}
 use mathlib.Core.Path.{_≡_, refl, sym, ap, _∙_}
 use mathlib.Core.Bool.{Bool, true, false}

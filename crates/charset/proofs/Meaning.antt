@@ -1,31 +1,35 @@
--- The law of the search for a character: a character in front is the first of all, and the last only where none is behind it, so the law
--- follows by going through the host. Assumes nothing.
+-- The law of the search for a character: a character in front is the first of all, and the last only where none is
+-- behind it, so the law follows by going through the host. Assumes nothing.
 use Prim.Native.Nat.{ℕ, zero, suc, _+_, _-_, _≤_, _<_}
 use mathlib.Core.Path.{_≡_, refl, sym, ap, _∙_}
 use mathlib.Core.Bool.{Bool, true, false, cond, true≢false}
 use mathlib.Core.List.{List, [], _∷_}
 use native.Mathlib.Omega.{arith}
 use lib.ListN.{length, getD}
+use Rattle.strlib.proofs.Refusing.{outcome-gave}
+use Rattle.strlib.specs.Pointer.{textOf}
 use Rattle.strlib.specs.Refusal.{Sought, nowhere, at}
-use Rattle.charset.specs.Nearest.{tabledAt, precedes, Nearest, Untabled, FindLaw, FindLaws}
-use Rattle.charset.specs.Rule.{orElse, chosen, foundAt, foundFrom}
-use Rattle.charset.specs.Sets.{inTables}
+use Rattle.charset.specs.Nearest.{TabledAt, precedes, Nearest, Untabled, FindLaw, FindLaws}
+use Rattle.charset.specs.Rule.{orElse, chosen, foundAt, foundFrom, setRefusal, findRule}
+use Rattle.charset.specs.Sets.{maskFits, inTables}
 use Rattle.charset.specs.declared.CharAt.{CharAt}
+use Rattle.charset.proofs.Answering.{set-passed}
+use Rattle.charset.proofs.Bitwise.{tabled-bits}
 
 module _ (block : List ℕ) (mask : ℕ) where
   -- the character with o others before it is in a masked table
-  abbrev Tabled : List ℕ → ℕ → Type 0
-  Tabled xs o = (o < length xs) × (inTables block mask (getD xs o 0) ≡ true)
+  abbrev InTable : List ℕ → ℕ → Type 0
+  InTable xs o = (o < length xs) × (inTables block mask (getD xs o 0) ≡ true)
 
   record Best-at (last : Bool) (p : ℕ) (xs : List ℕ) (x : CharAt) : Type 0 where
     pub o : ℕ
     pub place : x .position ≡ p + o
     pub code : x .code ≡ getD xs o 0
-    pub tabled : Tabled xs o
-    pub nearest : (n : ℕ) → Tabled xs n → precedes last o n
+    pub tabled : InTable xs o
+    pub nearest : (n : ℕ) → InTable xs n → precedes last o n
 
   abbrev Best : Bool → ℕ → List ℕ → Sought CharAt → Type 0
-  Best last p xs nowhere = (n : ℕ) → Tabled xs n → ⊥
+  Best last p xs nowhere = (n : ℕ) → InTable xs n → ⊥
   Best last p xs (at x) = Best-at last p xs x
 
   -- the character in front
@@ -35,7 +39,7 @@ module _ (block : List ℕ) (mask : ℕ) where
   shut : (last : Bool) (p x : ℕ) (xs : List ℕ) → inTables block mask x ≡ false → (r : Sought CharAt) → Best last (suc p) xs r → Best last p (x ∷ xs) r
   shut last p x xs e nowhere b = go
     where
-      go : (n : ℕ) → Tabled (x ∷ xs) n → ⊥
+      go : (n : ℕ) → InTable (x ∷ xs) n → ⊥
       go zero t = true≢false (sym (t .1) ∙ e)
       go (suc n) t = b n (omega arith, t .1)
   shut last p x xs e (at y) b =
@@ -47,7 +51,7 @@ module _ (block : List ℕ) (mask : ℕ) where
         nearest = go last (b .nearest);
       }
     where
-      go : (l : Bool) → ((n : ℕ) → Tabled xs n → precedes l (b .o) n) → (n : ℕ) → Tabled (x ∷ xs) n → precedes l (suc (b .o)) n
+      go : (l : Bool) → ((n : ℕ) → InTable xs n → precedes l (b .o) n) → (n : ℕ) → InTable (x ∷ xs) n → precedes l (suc (b .o)) n
       go l f zero t = absurd (true≢false (sym (t .1) ∙ e))
       go false f (suc n) t = omega (arith, f n (omega arith, t .1))
       go true f (suc n) t = omega (arith, f n (omega arith, t .1))
@@ -59,7 +63,7 @@ module _ (block : List ℕ) (mask : ℕ) where
   unfolding orElse
   last-open p x xs e nowhere b = record { o = 0; place = omega arith; code = refl; tabled = (omega arith, e); nearest = go }
     where
-      go : (n : ℕ) → Tabled (x ∷ xs) n → n ≤ 0
+      go : (n : ℕ) → InTable (x ∷ xs) n → n ≤ 0
       go zero t = omega arith
       go (suc n) t = absurd (b n (omega arith, t .1))
   last-open p x xs e (at y) b =
@@ -71,7 +75,7 @@ module _ (block : List ℕ) (mask : ℕ) where
         nearest = go;
       }
     where
-      go : (n : ℕ) → Tabled (x ∷ xs) n → n ≤ suc (b .o)
+      go : (n : ℕ) → InTable (x ∷ xs) n → n ≤ suc (b .o)
       go zero t = omega arith
       go (suc n) t = omega (arith, b .nearest n (omega arith, t .1))
 
@@ -91,20 +95,25 @@ module _ (block : List ℕ) (mask : ℕ) where
 
   -- ---- in the paper's words, counted from 1
 
-  module _ (last : Bool) (host : List ℕ) where
-    standing : {q : ℕ} → tabledAt block mask host q → Tabled host (q - 1)
-    standing t = (omega (arith, t .from, t .to), t .tabled)
+  module _ (fits : maskFits mask ≡ true) (last : Bool) (host : List ℕ) where
+    standing : {q : ℕ} → TabledAt block mask host q → InTable host (q - 1)
+    standing {q} t = (omega (arith, t .from, t .to), tabled-bits block mask (getD host (q - 1) 0) fits .tabled-is (t .tabled))
 
     nearest : (x : CharAt) → Best-at last 1 host x → Nearest last block mask host x
     nearest x b =
         let e : x .position - 1 ≡ b .o = omega (arith, b .place) in
         record {
-          tabled = record { from = omega (arith, b .place); to = omega (arith, b .place, b .tabled .0); tabled = rw e (b .tabled .1) };
+          tabled =
+              record {
+                from = omega (arith, b .place);
+                to = omega (arith, b .place, b .tabled .0);
+                tabled = rw e (tabled-bits block mask (getD host (b .o) 0) fits .is-tabled (b .tabled .1));
+              };
           code = rw e (b .code);
           nearest = λ q t. go last (b .nearest) q t;
         }
       where
-        go : (l : Bool) → ((n : ℕ) → Tabled host n → precedes l (b .o) n) → (q : ℕ) → tabledAt block mask host q → precedes l (x .position) q
+        go : (l : Bool) → ((n : ℕ) → InTable host n → precedes l (b .o) n) → (q : ℕ) → TabledAt block mask host q → precedes l (x .position) q
         go false f q t = omega (arith, f (q - 1) (standing t), b .place, t .from)
         go true f q t = omega (arith, f (q - 1) (standing t), b .place, t .from)
 
@@ -118,7 +127,7 @@ module _ (block : List ℕ) (mask : ℕ) where
         go false f g = omega arith
         go true f g = omega arith
 
-    law-of : FindLaw last block mask host
+    law-of : FindLaw last block mask host (foundFrom last block mask 1 host)
     law-of =
         record {
           found-is = λ x q. nearest x (rw q at (best last 1 host));
@@ -131,7 +140,7 @@ module _ (block : List ℕ) (mask : ℕ) where
         is-found x a nowhere b = absurd (b (x .position - 1) (standing (a .tabled)))
         is-found x a (at y) b = ap at (one y x (nearest y b) a)
 
-        nowhere-is : (r : Sought CharAt) → r ≡ nowhere → Best last 1 host r → {q : ℕ} → tabledAt block mask host q → ⊥
+        nowhere-is : (r : Sought CharAt) → r ≡ nowhere → Best last 1 host r → {q : ℕ} → TabledAt block mask host q → ⊥
         nowhere-is nowhere e b {q} t = b (q - 1) (standing t)
         nowhere-is (at y) e b t = let z : _≡_ {A = ℕ} 0 1 = cc in absurd (omega arith)
 
@@ -140,4 +149,7 @@ module _ (block : List ℕ) (mask : ℕ) where
         is-nothing n (at y) b = absurd (n (y .position) (nearest y b .tabled))
 
 pub find-law : FindLaws
-find-law last block mask host = law-of block mask last host
+unfolding findRule
+find-law last s host block mask a e =
+    let g = outcome-gave (setRefusal s host block mask) (foundFrom last block mask 1 (textOf s host)) a e in
+    rw (g .1) at (law-of block mask (set-passed s host block mask (g .0) .tables) last (textOf s host))

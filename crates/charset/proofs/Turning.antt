@@ -1,4 +1,5 @@
--- Laws of what is written into a block: a turn of a loop does to one word what is left to be done to it. Assumes nothing.
+-- Laws of what is written into a block: a turn of a loop does to one word what is left to be done to it. Assumes
+-- nothing.
 use Prim.Native.Nat.{ℕ, suc, _+_, _-_, _*_, _≤_, _<_}
 use mathlib.Core.Path.{_≡_, refl, sym, _∙_}
 use mathlib.Core.Bool.{Bool, true, false}

@@ -21,8 +21,8 @@ unfoldable pub among : List ℕ → ℕ → Bool
 among [] c = false
 among (x ∷ xs) c = eqb x c || among xs c
 
--- the block old has become new: for the characters meant, the masked bits are 1 (on) or 0 (off); every other bit is as it was, those of
--- other characters and bits 36 to 63 included
+-- the block old has become new: for the characters meant, the masked bits are 1 (on) or 0 (off); every other bit is as
+-- it was, those of other characters and bits 36 to 63 included
 pub record Turns (on : Bool) (mask : ℕ) (meant : ℕ → Bool) (old new : List ℕ) : Type 0 where
   pub size : length new ≡ length old
   pub masked : (c b : ℕ) → c < length old → meant c ≡ true → b < 64 → bit b mask ≡ 1 → bit b (getD new c 0) ≡ cond on 1 0
@@ -30,7 +30,8 @@ pub record Turns (on : Bool) (mask : ℕ) (meant : ℕ → Bool) (old new : List
   pub high : (c b : ℕ) → 36 ≤ b → b < 64 → bit b (getD new c 0) ≡ bit b (getD old c 0)
   pub others : (c : ℕ) → meant c ≡ false → getD new c 0 ≡ getD old c 0
 
--- clear and fill turn every character's bits, add and remove those of the string's characters: of any call that is not refused
+-- clear and fill turn every character's bits, add and remove those of the string's characters: of any call that is not
+-- refused
 pub record WritersTurn (on : Bool) (s : List ℕ) (p : StrPtr) (block : List ℕ) (mask : ℕ) : Type 0 where
   pub tables : tablesRule on block mask .0 ≡ gives tt → Turns on mask (λ c. true) block (tablesRule on block mask .1)
   pub characters : charactersRule on s p block mask .0 ≡ gives tt

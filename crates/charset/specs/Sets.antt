@@ -1,5 +1,5 @@
--- Character sets: 01, "Character sets". A block holds tables: bit b of a character's word says whether the character is in table b, and a
--- mask names the tables whose bits it has. Assumes nothing.
+-- Character sets: 01, "Character sets". A block holds tables: bit b of a character's word says whether the character is
+-- in table b, and a mask names the tables whose bits it has. Assumes nothing.
 use Prim.Native.Nat.{ℕ, _-_, _^_}
 use mathlib.Core.Bool.{Bool, true, false}
 use mathlib.Core.List.{List, [], _∷_}

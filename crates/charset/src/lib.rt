@@ -1,4 +1,5 @@
-// Character sets. Bit b of a character's word says whether the character is in table b; a mask names the tables whose bits it has.
+// Character sets. Bit b of a character's word says whether the character is in table b; a mask names the tables whose
+// bits it has.
 mod find;
 mod tables;
 

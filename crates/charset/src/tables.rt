@@ -1,4 +1,5 @@
-// What is written into a block: masked bits are turned on, or off, in every word or in the words of a string's characters.
+// What is written into a block: masked bits are turned on, or off, in every word or in the words of a string's
+// characters.
 use super::SetAnswer;
 use strlib::StrPtr;
 ghost use mathlib.Core.Path.{_≡_};

@@ -1,5 +1,5 @@
--- Laws of what decides a comparison: the loop leaves off at the first unequal pair, since what is left to look at decides as the whole
--- does. Assumes nothing.
+-- Laws of what decides a comparison: the loop leaves off at the first unequal pair, since what is left to look at
+-- decides as the whole does. Assumes nothing.
 use mathlib.Core.Path.{_≡_, refl, sym, _∙_}
 use mathlib.Core.Bool.{Bool, true, false, cond}
 use mathlib.Core.List.{List, [], _∷_}

@@ -16,7 +16,8 @@ use Rattle.compare.specs.declared.Compared.{Compared}
 use Rattle.compare.specs.declared.Compared.the-variants.{Answer, Refused}
 use Rattle.compare.specs.declared.Decision.{Decision}
 
--- codes: 0 equal, 1 not equal, 2 greater or equal, 3 less or equal, 4 greater, 5 less
+-- whether an order, 0 less, 1 equal or 2 greater, is what a code asks for: 0 equal, 1 not equal, 2 greater or equal, 3
+-- less or equal, 4 greater, 5 less (a code over 5 is refused)
 unfoldable pub holds : ℕ → ℕ → Bool
 holds code order =
     cond (eqb code 0) (eqb order 1)
@@ -25,8 +26,8 @@ holds code order =
     (cond (eqb code 3) (leb order 1)
     (cond (eqb code 4) (eqb order 2) (eqb order 0)))))
 
--- styles: 0 padded, 1 exact, 2 ignore. Padded, the shorter is filled with blanks, so that there are as many pairs as the longer has
--- characters; else as many as the shorter has
+-- styles: 0 padded, 1 exact, 2 ignore. Padded, the shorter is filled with blanks, so that there are as many pairs as
+-- the longer has characters; else as many as the shorter has
 unfoldable pub pairs : ℕ → ℕ → ℕ → ℕ
 pairs style m n = cond (eqb style 0) (max m n) (min m n)
 

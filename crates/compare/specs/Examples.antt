@@ -8,7 +8,8 @@ use Rattle.compare.specs.Order.{orderZ, orderN, signOf}
 use Rattle.compare.specs.Compare.{holds, pairs, lengthDecides, translated, orderAt, unequalFrom, decided, decision, comparison}
 
 pub record Examples : Type 0 where
-  -- the manual's call 1400: the translation meets the pad blank too, since 32 + 16 is '0'
+  -- the strings of the manual's call 1400: 01's translation meets the pad blank too, 32 + 16 being '0', so that they
+  -- are equal; the manual has them unequal
   pub translated-pad : comparison (bytes "ABCD0") (bytes "1234") 0 0 (pos 16) ≡ record { yes = true; sign = pos 1; split = 0 }
   -- in padded style the split may lie past the shorter length
   pub past-shorter : comparison (bytes "ab") (bytes "abc") 5 0 (pos 0) ≡ record { yes = true; sign = negsuc 0; split = 3 }

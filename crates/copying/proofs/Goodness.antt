@@ -11,7 +11,7 @@ use Rattle.strlib.specs.Store.{put}
 use Rattle.strlib.specs.declared.StrPtr.{StrPtr}
 use Rattle.strlib.proofs.Pointing.{good-sized}
 use Rattle.strlib.proofs.Refusing.{ruled-gave}
-use Rattle.copying.specs.Copying.{laid, wrote, boundedCopy, copyRefusal, copyRule, appendRule}
+use Rattle.copying.specs.Copying.{laid, wrote, boundedCopy, copyRefusal, copyRule, appendRule, CopyGood, AppendGood}
 use Rattle.copying.specs.declared.Wrote.{Wrote}
 use Rattle.copying.proofs.Padding.{laid-fits}
 use Rattle.copying.proofs.Copying.{copy-passed}
@@ -25,13 +25,13 @@ bounded-good k s destination xs pad r e h =
     let g = h (v .0) in
     rw (← (v .1 .0)) (good-sized (length s) destination (length (laid destination xs pad)) g (laid-fits (length s) destination xs pad g))
 
-module _ (s : List ℕ) (destination : StrPtr) (r : Wrote) where
-  pub copy-good : (source : StrPtr) (pad : Bool) → copyRule s destination source pad .0 ≡ gives r → goodIn (length s) (r .to) ≡ true
-  unfolding copyRule
-  copy-good source pad e =
-      bounded-good (copyRefusal s destination source) s destination (textOf s source) pad r e (λ z. copy-passed s destination source z .into .room)
+pub copy-good : CopyGood
+unfolding copyRule
+copy-good s destination source pad r e =
+    bounded-good (copyRefusal s destination source) s destination (textOf s source) pad r e (λ z. copy-passed s destination source z .into .room)
 
-  pub append-good : (source : StrPtr) → appendRule s destination source .0 ≡ gives r → goodIn (length s) (r .to) ≡ true
-  unfolding appendRule
-  append-good source e =
-      bounded-good (copyRefusal s destination source) s destination (textOf s destination ++ textOf s source) false r e (λ z. copy-passed s destination source z .into .room)
+pub append-good : AppendGood
+unfolding appendRule
+append-good s destination source r e =
+    bounded-good (copyRefusal s destination source) s destination (textOf s destination ++ textOf s source) false r e
+    (λ z. copy-passed s destination source z .into .room)

@@ -6,7 +6,7 @@ use mathlib.Core.List.{List, [], _∷_, _++_}
 use lib.Dec.{leb}
 use lib.ListN.{length, take, replicate}
 use Rattle.strlib.specs.Checks.{intoChecks}
-use Rattle.strlib.specs.Pointer.{sized, textOf, clear}
+use Rattle.strlib.specs.Pointer.{sized, goodIn, textOf, clear}
 use Rattle.strlib.specs.Refusal.{Outcome, refused, gives, first, ruled}
 use Rattle.strlib.specs.Store.{put}
 use Rattle.strlib.specs.declared.StrPtr.{StrPtr}
@@ -67,6 +67,16 @@ copyRule s destination source pad = boundedCopy (copyRefusal s destination sourc
 unfoldable pub appendRule : List ℕ → StrPtr → StrPtr → Outcome Wrote × List ℕ
 appendRule s destination source =
     boundedCopy (copyRefusal s destination source) s destination (textOf s destination ++ textOf s source) false
+
+-- a pointer that a copy or an append gives is good for the store
+abbrev pub CopyGood : Type 0
+CopyGood =
+    (s : List ℕ) (destination source : StrPtr) (pad : Bool) (r : Wrote)
+    → copyRule s destination source pad .0 ≡ gives r
+    → goodIn (length s) (r .to) ≡ true
+
+abbrev pub AppendGood : Type 0
+AppendGood = (s : List ℕ) (destination source : StrPtr) (r : Wrote) → appendRule s destination source .0 ≡ gives r → goodIn (length s) (r .to) ≡ true
 
 -- a padded append would be an append: what is written is never shorter than the destination was
 abbrev pub PaddedAppend : Type 0

@@ -1,6 +1,7 @@
--- The program's own loop, in the words of a run: 01, "Cue lines and labels". What a call of C's reads and writes no contract can say: what a
--- read answered and whether a write took all are some numbers here. That they are those of the calls, which bytes a write is given, and
--- that there is no other read or write, is read by eye in src/main.rt. Assumes nothing.
+-- The program's own loop, in the words of a run: 01, "Cue lines and labels". What a call of C's reads and writes no
+-- contract can say: what a read answered and whether a write took all are some numbers here. That they are those of the
+-- calls, which bytes a write is given, and that there is no other read or write, is read by eye in src/main.rt. Assumes
+-- nothing.
 use Prim.Native.Nat.{ℕ, _+_, _*_, _≤_}
 use mathlib.Core.Path.{_≡_}
 use mathlib.Core.Bool.{Bool, true}
@@ -60,7 +61,8 @@ pub record AllTurns (run : Run) (n : ℕ) (h o : List ℕ) (r : Run) (h′ o′ 
   pub turns : TurnsMade run n h o spare r h′ o′
   pub over : isGoing (r .ending) ≡ true → spare ≡ 0
 
--- a run from its heading on, with a buffer o for answers, and how it ended: what it is told to write is what a run of its turns is
+-- a run from its heading on, with a buffer o for answers, and how it ended: what it is told to write is what a run of
+-- its turns is
 pub record Answering (o : List ℕ) (e : Ending) (o′ : List ℕ) : Type 0 where
   pub hold : List ℕ
   pub done : Bool

@@ -1,4 +1,5 @@
-// Reads cue lines for a matrix of 64 by 128 from a file or from standard input, and writes an answer to each, and the total.
+// Reads cue lines for a matrix of 64 by 128 from a file or from standard input, and writes an answer to each, and the
+// total.
 use answers::Run;
 use endings::Ending;
 use endings::Source;
@@ -6,8 +7,8 @@ use strlib::StrPtr;
 ghost use lib.ListN.{length};
 ghost use Rattle.cue_answers.specs.Loop.{Room, Tried, Turned, AllTurns, Answering, OfFile};
 
-// Bytes that are read at a time, and room for the answers to them, 36 bytes for each. Together with the line that is held
-// they take some 180,000 bytes of stack.
+// Bytes that are read at a time, and room for the answers to them, 36 bytes for each. Together with the line that is
+// held they take some 180,000 bytes of stack.
 const PIECE: usize = 3072;
 
 const OUT: usize = 36 * PIECE;
@@ -22,7 +23,7 @@ fn write_told(out: &[u8], run: Run) -> Run
 }
 
 // Reads once, and writes the answers.
-fn turn(fd: i32, piece: &mut [u8], hold: &mut [u8; 65537], out: &mut [u8], run: Run) -> Run
+fn turn(fd: i32, piece: &mut [u8], hold: &mut [u8; answers::HOLD], out: &mut [u8], run: Run) -> Run
     requires { ⌜ Room (now piece) (now out) ⌝ }
     ensures { λ r. ⌜ Turned run (now (piece .exit)) (now (hold .entry)) (now (out .entry)) r (now (hold .exit)) (now (out .exit)) ⌝ }
 {
@@ -32,7 +33,13 @@ fn turn(fd: i32, piece: &mut [u8], hold: &mut [u8; 65537], out: &mut [u8], run: 
 }
 
 // Turn after turn, until the run has ended. The turns count down from a number that no input uses up.
-fn all_turns(fd: i32, piece: &mut [u8], hold: &mut [u8; 65537], out: &mut [u8], run: Run) -> Run
+fn all_turns(
+    fd: i32,
+    piece: &mut [u8],
+    hold: &mut [u8; answers::HOLD],
+    out: &mut [u8],
+    run: Run,
+) -> Run
     requires { ⌜ Room (now piece) (now out) ⌝ }
     ensures { λ r. ⌜ AllTurns run (length (now (piece .entry))) (now (hold .entry)) (now (out .entry)) r (now (hold .exit)) (now (out .exit)) ⌝ }
 {
@@ -55,7 +62,7 @@ fn answer_all(fd: i32, out: &mut [u8; OUT]) -> Ending
     ensures { λ r. ⌜ Answering (now (out .entry)) r (now (out .exit)) ⌝ }
 {
     let mut piece = [0u8; PIECE];
-    let mut hold = [0u8; 65537];
+    let mut hold = [0u8; answers::HOLD];
     let run = answers::begin(out);
     let run = write_told(out, run);
     let run = all_turns(fd, &mut piece, &mut hold, out, run);

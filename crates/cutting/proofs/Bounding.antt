@@ -1,4 +1,5 @@
--- Laws of what a cut looks at: the code's tests are the bounds of the definitions, and blanks are dropped from the end. Assumes nothing.
+-- Laws of what a cut looks at: the code's tests are the bounds of the definitions, and blanks are dropped from the end.
+-- Assumes nothing.
 use mathlib.Core.Path.{_≡_, refl, sym, ap, _∙_}
 use mathlib.Core.Bool.{Bool, true, false, cond, _&&_, and-true, and-false}
 use mathlib.Core.List.{List, [], _∷_, _++_, append-nil}
@@ -19,29 +20,29 @@ use Rattle.cutting.specs.declared.Cut.the-variants.{Relative, Counted, B
 
 -- ---- bounds
 
-module _ (max p n : ℕ) where
-  pub counted-zero : p ≡ 0 → false ≡ countedIn max p n
+module _ (m p n : ℕ) where
+  pub counted-zero : p ≡ 0 → false ≡ countedIn m p n
   unfolding countedIn
   counted-zero z = rw z
 
-  pub counted-past : (p ≡ 0 → ⊥) → max < p - 1 → false ≡ countedIn max p n
+  pub counted-past : (p ≡ 0 → ⊥) → m < p - 1 → false ≡ countedIn m p n
   unfolding countedIn
-  counted-past z h = let k : max + 1 < p = omega arith in simp (lt-leb p (max + 1) k, and-false)
+  counted-past z h = let k : m + 1 < p = omega arith in simp (lt-leb p (m + 1) k, and-false)
 
-  pub counted-last : (p ≡ 0 → ⊥) → p - 1 ≤ max → leb n (max - (p - 1)) ≡ countedIn max p n
+  pub counted-last : (p ≡ 0 → ⊥) → p - 1 ≤ m → leb n (m - (p - 1)) ≡ countedIn m p n
   unfolding countedIn
   counted-last z h =
       let a : 1 ≤ p = omega arith in
-      let b : p ≤ max + 1 = omega arith in
-      let e : max + 1 - p ≡ max - (p - 1) = omega arith in
-      simp (le-leb 1 p a, le-leb p (max + 1) b, e)
+      let b : p ≤ m + 1 = omega arith in
+      let e : m + 1 - p ≡ m - (p - 1) = omega arith in
+      simp (le-leb 1 p a, le-leb p (m + 1) b, e)
 
-  pub counted-is : countedIn max p n ≡ true → (1 ≤ p) × ((p ≤ max + 1) × (n ≤ max + 1 - p))
+  pub counted-is : countedIn m p n ≡ true → (1 ≤ p) × ((p ≤ m + 1) × (n ≤ m + 1 - p))
   unfolding countedIn
   counted-is e =
-      let x = and-both (leb 1 p && leb p (max + 1)) (leb n (max + 1 - p)) e in
-      let y = and-both (leb 1 p) (leb p (max + 1)) (x .0) in
-      (leb-true 1 p (y .0), (leb-true p (max + 1) (y .1), leb-true n (max + 1 - p) (x .1)))
+      let x = and-both (leb 1 p && leb p (m + 1)) (leb n (m + 1 - p)) e in
+      let y = and-both (leb 1 p) (leb p (m + 1)) (x .0) in
+      (leb-true 1 p (y .0), (leb-true p (m + 1) (y .1), leb-true n (m + 1 - p) (x .1)))
 
 pub second-end : (n p : ℕ) → p ≡ 0 → n + 1 ≡ second n p
 unfolding second

@@ -1,5 +1,5 @@
--- A pointer that a cut returns is good for the store it was cut from: once over all cuts, from the room that each part keeps within
--- that of the whole. Assumes nothing.
+-- A pointer that a cut returns is good for the store it was cut from: once over all cuts, from the room that each part
+-- keeps within that of the whole. Assumes nothing.
 use mathlib.Core.Path.{_≡_}
 use mathlib.Core.Bool.{true}
 use mathlib.Core.List.{List}

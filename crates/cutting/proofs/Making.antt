@@ -1,5 +1,5 @@
--- Laws of the part that is cut out: within the bounds each difference is a number, and the arms of the code make the part of the
--- definition. Assumes nothing.
+-- Laws of the part that is cut out: within the bounds each difference is a number, and the arms of the code make the
+-- part of the definition. Assumes nothing.
 use mathlib.Core.Path.{_≡_, refl, sym, _∙_}
 use mathlib.Core.Bool.{Bool, true}
 use mathlib.Core.List.{List}

@@ -11,7 +11,7 @@ use Rattle.strlib.specs.declared.StrPtr.{StrPtr}
 use Rattle.cutting.specs.declared.Cut.{Cut}
 use Rattle.cutting.specs.declared.Cut.the-variants.{Relative, Counted, Between, Trimmed}
 
--- a blank is 32
+-- all are blanks, 32
 unfoldable pub isBlank : List ℕ → Bool
 isBlank xs = all (λ x. eqb x 32) xs
 

@@ -34,7 +34,7 @@ pub record Examples : Type 0 where
   pub trims : cutRule store label Trimmed ≡ gives (pointer 0 6 9)
   -- trimming reads the string
   pub trim-reads : cutRule store (pointer 0 9 9) Trimmed ≡ refused 2
-  -- a sum over 2^64 is no good pointer, though its remainder would be
+  -- a sum of 2^64 is no good pointer, though its remainder would be
   pub no-wrap : cutRule store (pointer 18446744073709551615 1 1) (Relative 0) ≡ refused 1
   -- of a slice, bad positions give the empty part at the front
   pub slice-bad : sliceCut store (Counted 9 2) ≡ pointer 0 0 0

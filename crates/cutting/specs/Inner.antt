@@ -6,7 +6,8 @@ use Rattle.strlib.specs.declared.StrPtr.{StrPtr}
 use Rattle.cutting.specs.Cutting.{inBounds}
 use Rattle.cutting.specs.declared.Cut.{Cut}
 
--- what the code asks before it cuts: the room is in order, its end is a number that the machine has, and the bounds hold
+-- what the code asks before it cuts: the room is in order, its end is a number that the machine has, and the bounds
+-- hold
 pub record Cuttable (p : StrPtr) (c : Cut) : Type 0 where
   pub room : p .length ≤ p .maximum
   pub end : p .start + p .maximum < 9223372036854775808

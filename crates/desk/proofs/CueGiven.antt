@@ -2,20 +2,23 @@
 -- one of those listed. Assumes nothing.
 use mathlib.Core.Path.{_≡_, refl, sym}
 use mathlib.Core.Bool.{true, false, false≢true}
-use mathlib.Core.List.{List}
+use mathlib.Core.List.{List, [], _∷_, _++_}
 use Prim.Native.Nat.{ℕ, _≤_, _<_}
 use native.Mathlib.Omega.{arith}
-use borrow.Author.Tests.{leb-true, le-leb}
+use borrow.Author.Tests.{leb-true}
 use lib.Dec.{leb}
 use lib.IntN.{ℤ, pos, negsuc, natAbs}
 use lib.ListN.{length}
+use Rattle.number.proofs.Ranging.{in-range}
 use Rattle.number.specs.Limits.{inRange}
+use Rattle.number.specs.Number.{ofText}
 use Rattle.number.specs.Text.{numberOf}
+use Rattle.strlib.proofs.Checking.{first-both}
 use Rattle.strlib.proofs.Refusing.{bool-case, and-both, passed, outcome-no, outcome-gave, outcome-is, first-under}
 use Rattle.strlib.proofs.Pointing.{fits-is}
 use Rattle.strlib.specs.Pointer.{storeFits}
 use Rattle.strlib.specs.Refusal.{refused}
-use Rattle.desk.specs.Cue.{isIndex, isGain, micWord, lspWord, gainWord, cueChecks, cueRefusal, cueOf, cueRule, CueGiven}
+use Rattle.desk.specs.Cue.{formed, isIndex, isGain, micWord, lspWord, gainWord, lineChecks, matrixChecks, numberChecks, wordChecks, cueChecks, cueRefusal, cueOf, cueRule, CueGiven}
 
 index-in : (size : ℕ) (z : ℤ) → isIndex size z ≡ true → (1 ≤ natAbs z) × (natAbs z ≤ size)
 unfolding isIndex
@@ -31,7 +34,15 @@ record Given (line : List ℕ) (mics lsps : ℕ) : Type 0 where
 given : (line : List ℕ) (mics lsps : ℕ) → cueRefusal line mics lsps ≡ 0 → Given line mics lsps
 unfolding cueRefusal
 given line mics lsps e =
-    let p = passed (cueChecks line mics lsps) refl e .1 .1 .1 .1 .1 .1 .1 .1 .1 .1 .1 .1 in
+    let a = micWord line in
+    let b = lspWord line in
+    let c = gainWord line in
+    let m = matrixChecks mics lsps (numberOf 10 a) (numberOf 10 b) (numberOf 10 c) in
+    let w = first-both (lineChecks line mics lsps) (wordChecks line mics lsps) refl e .1 in
+    let n = first-both ((11, formed line) ∷ []) (numberChecks mics lsps a b c) refl w .1 in
+    let n₂ = first-both (ofText 10 a) (ofText 10 b ++ (ofText 10 c ++ m)) refl n .1 in
+    let n₃ = first-both (ofText 10 b) (ofText 10 c ++ m) refl n₂ .1 in
+    let p = passed m refl (first-both (ofText 10 c) m refl n₃ .1) in
     record { microphone = p .0; loudspeaker = p .1 .0; gain = p .1 .1 .0 }
 
 pub cue-given : CueGiven
@@ -43,16 +54,14 @@ cue-given line mics lsps c e =
     let p = given line mics lsps (g .0) in
     rw (← (g .1)) (record { mic = index-in mics n (p .microphone); lsp = index-in lsps m (p .loudspeaker); gain = p .gain })
 
--- a gain is within the range of numbers, and 960 at most whatever its sign
-pub gain-in-range : (z : ℤ) → isGain z ≡ true → inRange z ≡ true
-unfolding isGain inRange
-gain-in-range (pos n) e = let k = leb-true n 120 e in le-leb n 34359738367 (omega arith)
-gain-in-range (negsuc n) e = let k = leb-true n 959 (and-both (leb n 959) true e .0) in rw (le-leb n 34359738367 (omega arith))
-
+-- a gain is 960 at most whatever its sign, and so within the range of numbers
 pub gain-small : (z : ℤ) → isGain z ≡ true → natAbs z ≤ 960
 unfolding isGain
 gain-small (pos n) e = omega (arith, leb-true n 120 e)
 gain-small (negsuc n) e = omega (arith, leb-true n 959 (and-both (leb n 959) true e .0))
+
+pub gain-in-range : (z : ℤ) → isGain z ≡ true → inRange z ≡ true
+gain-in-range z e = in-range z (omega (arith, gain-small z e))
 
 -- a refusal's number is at most 12
 pub cue-refused : (line : List ℕ) (mics lsps k : ℕ) → cueRule line mics lsps ≡ refused k → k ≤ 12

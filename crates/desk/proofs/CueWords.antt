@@ -1,8 +1,8 @@
 -- Laws of the words of a cue line: the loop puts them into a list one by one, and by their places they have the form
 -- that the line has. Assumes nothing.
-use mathlib.Core.Path.{_≡_, refl, sym, _∙_}
+use mathlib.Core.Path.{_≡_, refl, sym, ap, _∙_}
 use mathlib.Core.Bool.{Bool, true, false, _&&_}
-use mathlib.Core.List.{List, [], _++_, append-assoc, append-nil}
+use mathlib.Core.List.{List, [], _∷_, _++_, append-assoc, append-nil}
 use Prim.Native.Nat.{ℕ, suc, _+_, _-_, _≤_, _<_}
 use native.Mathlib.Numerals.{add-one}
 use native.Mathlib.Omega.{arith}
@@ -14,7 +14,7 @@ use lib.Seq.{take-all, take-suc-set}
 use Rattle.strlib.specs.Pointer.{textOf}
 use Rattle.strlib.specs.Quoted.{bytes}
 use Rattle.strlib.specs.declared.StrPtr.{StrPtr}
-use Rattle.words.proofs.Wording.{word-no, word-some}
+use Rattle.words.proofs.Wording.{first-words-none, first-words-more, word-no, word-some}
 use Rattle.words.specs.Words.{words, same, pointerOf, nextWord, firstWords}
 use Rattle.words.specs.declared.Piece.{Piece}
 use Rattle.desk.specs.Cue.{formed}
@@ -32,10 +32,11 @@ listed-none s l e = record { size = e; within = omega arith; all = refl }
 
 module _ (s : List ℕ) (l : List StrPtr) (at k : ℕ) (e : Listed s l at k) where
   pub listed-more : (w : Piece) (p : StrPtr) → w ≡ nextWord s at → p ≡ pointerOf w → k < 8 → Listed s (set l k p) (w .next) (k + 1)
-  unfolding firstWords
   listed-more w p ew ep h =
       let j : 8 - k ≡ suc (8 - (k + 1)) = omega arith in
-      let q : take k l ++ firstWords (suc (8 - (k + 1))) s at ≡ firstWords 8 s 0 = rw j at (e .all) in
+      let q : take k l ++ (pointerOf (nextWord s at) ∷ firstWords (8 - (k + 1)) s (nextWord s at .next)) ≡ firstWords 8 s 0 =
+      ap (λ (ws : List StrPtr). take k l ++ ws) (sym (ap (λ (n : ℕ). firstWords n s at) j ∙ first-words-more (8 - (k + 1)) s at)) ∙ e .all
+      in
       record {
         size = length-set l k p ∙ e .size;
         within = omega arith;
@@ -44,11 +45,10 @@ module _ (s : List ℕ) (l : List StrPtr) (at k : ℕ) (e : Listed s l at k) whe
       }
 
   pub listed-all : 8 ≤ k → l ≡ firstWords 8 s 0
-  unfolding firstWords
   listed-all h =
       let z : 8 - k ≡ 0 = omega arith in
-      let q : take k l ++ firstWords 0 s at ≡ firstWords 8 s 0 = rw z at (e .all) in
-      sym (take-all k l (omega (arith, e .size))) ∙ sym (append-nil (take k l)) ∙ q
+      let q : take k l ++ firstWords (8 - k) s at ≡ take k l ++ [] = ap (λ (n : ℕ). take k l ++ firstWords n s at) z ∙ rw (first-words-none s at) in
+      sym (take-all k l (omega (arith, e .size))) ∙ sym (append-nil (take k l)) ∙ sym q ∙ e .all
 
 pub ruleset listed-laws = (needs, listed-none, listed-more, listed-all)
 

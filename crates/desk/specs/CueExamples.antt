@@ -1,4 +1,5 @@
--- 01's three cue lines and three more, as one claim on the definitions; the others are run by the Rust tests. Assumes nothing.
+-- 01's three cue lines and three more, as one claim on the definitions; the others are run by the Rust tests. Assumes
+-- nothing.
 use Prim.Native.Nat.{ℕ}
 use mathlib.Core.Path.{_≡_, refl}
 use mathlib.Core.List.{List, [], _∷_, _++_}
@@ -14,8 +15,8 @@ use Rattle.desk.specs.declared.cue.Cue.{Cue}
 use Rattle.desk.specs.Cue.{formed, isSize, isIndex, isGain, cueRefusal, cueOf, cueRule}
 
 -- the program's matrix
-abbrev pub read : List ℕ → Outcome Cue
-read line = cueRule line 64 128
+abbrev pub answerTo : List ℕ → Outcome Cue
+answerTo line = cueRule line 64 128
 
 abbrev pub cue : ℕ → ℕ → ℤ → Outcome Cue
 cue n m g = gives (record { microphone = n; loudspeaker = m; gain = g })
@@ -26,14 +27,14 @@ full = bytes "   MIC       0000000000007  TO     LSP    00000000000000031    GAI
 
 pub record Examples : Type 0 where
   -- 01's three lines
-  pub ok : read (bytes "MIC 7 TO LSP 31 GAIN -120") ≡ cue 7 31 (negsuc 119)
-  pub outside : read (bytes "MIC 65 TO LSP 1 GAIN 0") ≡ refused 12
-  pub short : read (bytes "MIC 7 TO LSP") ≡ refused 11
+  pub ok : answerTo (bytes "MIC 7 TO LSP 31 GAIN -120") ≡ cue 7 31 (negsuc 119)
+  pub outside : answerTo (bytes "MIC 65 TO LSP 1 GAIN 0") ≡ refused 12
+  pub short : answerTo (bytes "MIC 7 TO LSP") ≡ refused 11
   -- 7 or 8 from left to right
-  pub seven-first : read (bytes "MIC x TO LSP 34359738368 GAIN 0") ≡ refused 7
+  pub seven-first : answerTo (bytes "MIC x TO LSP 34359738368 GAIN 0") ≡ refused 7
   -- 80 characters, and 81
-  pub at-most : read full ≡ cue 7 31 (negsuc 119)
-  pub too-long : read (full ++ (32 ∷ [])) ≡ refused 11
+  pub at-most : answerTo full ≡ cue 7 31 (negsuc 119)
+  pub too-long : answerTo (full ++ (32 ∷ [])) ≡ refused 11
 
 pub examples : Examples
 unfolding

@@ -30,7 +30,7 @@ labelCounted (Uncounted n) = refused n
 
 -- ---- the lookup
 
--- where the trimmed name of record k lies, k being counted from 1: the place, and the length
+-- where the trimmed name of record k lies, k being counted from 1: its place in the list, from 0, and its length
 unfoldable pub nameOf : List ℕ → ℕ → Sought (ℕ × ℕ)
 nameOf l zero = nowhere
 nameOf l (suc k) = at (placeOf l k + headSize, trimmedLength (nameIn (recordAt l k)))

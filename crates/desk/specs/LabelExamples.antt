@@ -20,9 +20,9 @@ cello = (1 ∷ 0 ∷ 7 ∷ []) ++ bytes "CELLO           "
 abbrev pub stalls : List ℕ
 stalls = (2 ∷ 0 ∷ 31 ∷ []) ++ bytes "STALLS LEFT     "
 
--- a record whose name is all blanks but for its first byte
-abbrev pub plain : ℕ → ℕ → ℕ → ℕ → List ℕ
-plain kind high low x = (kind ∷ high ∷ low ∷ x ∷ []) ++ replicate 15 32
+-- a record whose name has one byte and else blanks
+abbrev pub oneByte : ℕ → ℕ → ℕ → ℕ → List ℕ
+oneByte kind high low x = (kind ∷ high ∷ low ∷ x ∷ []) ++ replicate 15 32
 
 -- a buffer of one record and two bytes more than a second one
 abbrev pub buffer : List ℕ
@@ -32,9 +32,9 @@ pub record Examples : Type 0 where
   -- the reader
   pub two : readLabelsRule (cello ++ stalls) ≡ gives 2
   -- one kind and number twice
-  pub repeated : readLabelsRule (cello ++ plain 1 0 7 65) ≡ refused 11
+  pub repeated : readLabelsRule (cello ++ oneByte 1 0 7 65) ≡ refused 11
   -- the first faulty record before all others
-  pub first-record : readLabelsRule (plain 1 0 1 127 ++ plain 3 0 0 127) ≡ refused 2
+  pub first-record : readLabelsRule (oneByte 1 0 1 127 ++ oneByte 3 0 0 127) ≡ refused 2
   -- the lookup, which gives the place from 0 and the trimmed length
   pub found : findLabelRule (cello ++ stalls) 2 31 ≡ gives (at (22, 11))
   -- the writer

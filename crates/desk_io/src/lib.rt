@@ -8,7 +8,8 @@ ghost use Rattle.libc.specs.Io.{Moved};
 // More calls than any signal can interrupt.
 const TRIES: u64 = 18446744073709551615;
 
-// One read, answered as C's is: −1 where it failed, 0 at the end of the input, else how many bytes it put at the front of buf.
+// One read, answered as C's is: −1 where it failed, 0 at the end of the input, else how many bytes it put at the front
+// of buf.
 pub fn read(fd: i32, buf: &mut [u8]) -> isize
     ensures { λ r. ⌜ Moved (length (now (buf .entry))) r ⌝ }
 {
@@ -53,7 +54,8 @@ pub fn write(fd: i32, buf: &[u8]) -> bool
     true
 }
 
-// Puts the program's first argument at the front of name, and answers its length; of one that is too long what has room.
+// Puts the program's first argument at the front of name, and answers its length; of one that is too long what has
+// room.
 pub fn argument(name: &mut [u8]) -> usize
     ensures { λ r. ⌜ r ≤ length (now (name .exit)) ⌝ }
 {

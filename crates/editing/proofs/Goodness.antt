@@ -1,25 +1,22 @@
 -- Every pointer that a call gives is good for the store: it is the given one with a length that keeps to its maximum.
 -- Assumes nothing.
-use mathlib.Core.Path.{_≡_, refl, sym}
-use mathlib.Core.Bool.{true}
+use mathlib.Core.Path.{refl, sym}
 use mathlib.Core.List.{List}
 use Prim.Native.Nat.{ℕ}
 use native.Mathlib.Omega.{arith}
 use lib.ListN.{length}
-use Rattle.strlib.specs.Pointer.{sized, goodIn, textOf}
-use Rattle.strlib.specs.Refusal.{gives}
+use Rattle.strlib.specs.Pointer.{sized, textOf}
 use Rattle.strlib.specs.Store.{put}
-use Rattle.strlib.specs.declared.StrPtr.{StrPtr}
 use Rattle.strlib.proofs.Pointing.{good-sized, text-length}
 use Rattle.strlib.proofs.Refusing.{ruled-gave}
 use Rattle.moving.specs.Moving.{reversed}
 use Rattle.moving.proofs.Turning.{reversed-length}
-use Rattle.editing.specs.Replacing.{replaced, replaceRefusal, replaceRule}
-use Rattle.editing.specs.Reversing.{reverseRefusal, reverseRule, reverseFromRefusal, reverseFromRule}
+use Rattle.editing.specs.Replacing.{replaced, replaceRefusal, replaceRule, ReplaceGood}
+use Rattle.editing.specs.Reversing.{reverseRefusal, reverseRule, reverseFromRefusal, reverseFromRule, ReverseGood, ReverseFromGood}
 use Rattle.editing.proofs.Replacing.{replace-passed, replace-fits}
-use Rattle.editing.proofs.Reversing.{reverse-room, reverse-from-passed}
+use Rattle.editing.proofs.Reversing.{reverse-passed, reverse-from-passed}
 
-pub replace-good : (s : List ℕ) (string1 string2 string3 r : StrPtr) → replaceRule s string1 string2 string3 .0 ≡ gives r → goodIn (length s) r ≡ true
+pub replace-good : ReplaceGood
 unfolding replaceRule
 replace-good s string1 string2 string3 r e =
     let xs : List ℕ = replaced s string1 string2 string3 in
@@ -27,13 +24,13 @@ replace-good s string1 string2 string3 r e =
     let ok = replace-passed s string1 string2 string3 (v .0) in
     rw (← (v .1 .0)) (good-sized (length s) string1 (length xs) (ok .room) (replace-fits s string1 string2 string3 0 (sym (v .0)) refl))
 
-pub reverse-good : (s : List ℕ) (string r : StrPtr) → reverseRule s string .0 ≡ gives r → goodIn (length s) r ≡ true
+pub reverse-good : ReverseGood
 unfolding reverseRule
 reverse-good s string r e =
     let v = ruled-gave (reverseRefusal s string) string r (put s (string .start) (reversed (textOf s string))) s e in
-    rw (← (v .1 .0)) (reverse-room s string (v .0))
+    rw (← (v .1 .0)) (reverse-passed s string (v .0) .room)
 
-pub reverse-from-good : (s : List ℕ) (destination source r : StrPtr) → reverseFromRule s destination source .0 ≡ gives r → goodIn (length s) r ≡ true
+pub reverse-from-good : ReverseFromGood
 unfolding reverseFromRule
 reverse-from-good s destination source r e =
     let xs : List ℕ = reversed (textOf s source) in

@@ -37,9 +37,12 @@ reverse-from-checked s destination source found e apart d found₁ e₁ k e₂ =
     first-on (intoChecks s destination source) ((5, clear destination source) ∷ (6, leb (source .length) (destination .maximum)) ∷ []) refl refl found k e (rw (e₂, e₁, d))
 
 -- what is known where they find nothing
-pub reverse-room : (s : List ℕ) (string : StrPtr) → reverseRefusal s string ≡ 0 → goodIn (length s) string ≡ true
+pub record ReversePassed (s : List ℕ) (string : StrPtr) : Type 0 where
+  pub room : goodIn (length s) string ≡ true
+
+pub reverse-passed : (s : List ℕ) (string : StrPtr) → reverseRefusal s string ≡ 0 → ReversePassed s string
 unfolding reverseRefusal
-reverse-room s string z = passed (reverseChecks s string) refl z .1 .0
+reverse-passed s string z = record { room = passed (reverseChecks s string) refl z .1 .0 }
 
 pub record ReverseFromPassed (s : List ℕ) (destination source : StrPtr) : Type 0 where
   pub into : IntoPassed s destination source
@@ -65,7 +68,7 @@ module _ (s : List ℕ) (string : StrPtr) (k : ℕ) (e : k ≡ reverseRefusal s 
   unfolding reverseRule textOf
   reverse-done z t q =
       ruled-yes k (reverseRefusal s string) e string string t _ s z refl
-      (q ∙ reversed-in s (string .start) (string .length) (omega (arith, good-is (length s) string (reverse-room s string (sym e ∙ z)))))
+      (q ∙ reversed-in s (string .start) (string .length) (omega (arith, good-is (length s) string (reverse-passed s string (sym e ∙ z) .room))))
 
 -- ---- from a source
 

@@ -10,7 +10,7 @@ use Rattle.moving.specs.Moving.{reversed}
 use Rattle.editing.specs.Replacing.{liesIn, newLength, replaced, replaceRefusal, replaceRule}
 use Rattle.editing.specs.Reversing.{reverseRefusal, reverseRule, reverseFromRefusal, reverseFromRule}
 
--- twenty characters and room for five more, then 'abc  '
+-- the room of a string of twenty characters, 25 bytes, and 'abc  ' behind it
 abbrev pub twenty : List ℕ → List ℕ
 twenty room = room ++ bytes "abc  "
 

@@ -1,11 +1,12 @@
 -- Replace: 01, "Copying", third paragraph. Assumes nothing.
 use Prim.Native.Nat.{ℕ, _+_, _-_}
-use mathlib.Core.Bool.{Bool, _&&_}
+use mathlib.Core.Path.{_≡_}
+use mathlib.Core.Bool.{Bool, _&&_, true}
 use mathlib.Core.List.{List, [], _∷_, _++_}
 use lib.Dec.{leb}
 use lib.ListN.{length, take, drop}
 use Rattle.strlib.specs.Pointer.{sized, storeFits, goodIn, textOf, readable, clear}
-use Rattle.strlib.specs.Refusal.{Outcome, first, ruled}
+use Rattle.strlib.specs.Refusal.{Outcome, first, ruled, gives}
 use Rattle.strlib.specs.Store.{put}
 use Rattle.strlib.specs.declared.StrPtr.{StrPtr}
 
@@ -40,3 +41,8 @@ unfoldable pub replaceRule : List ℕ → StrPtr → StrPtr → StrPtr → Outco
 replaceRule s string1 string2 string3 =
     let xs : List ℕ = replaced s string1 string2 string3 in
     ruled (replaceRefusal s string1 string2 string3) (sized string1 (length xs)) (put s (string1 .start) xs) s
+
+-- a pointer that a replacement gives is good for the store
+abbrev pub ReplaceGood : Type 0
+ReplaceGood =
+    (s : List ℕ) (string1 string2 string3 r : StrPtr) → replaceRule s string1 string2 string3 .0 ≡ gives r → goodIn (length s) r ≡ true

@@ -1,12 +1,13 @@
 -- Reverse, in place or from a source: 01, "Copying", third paragraph. Assumes nothing.
 use Prim.Native.Nat.{ℕ}
-use mathlib.Core.Bool.{Bool}
+use mathlib.Core.Path.{_≡_}
+use mathlib.Core.Bool.{Bool, true}
 use mathlib.Core.List.{List, [], _∷_, _++_}
 use lib.Dec.{leb}
 use lib.ListN.{length}
 use Rattle.strlib.specs.Checks.{intoChecks}
 use Rattle.strlib.specs.Pointer.{sized, storeFits, goodIn, textOf, readable, clear}
-use Rattle.strlib.specs.Refusal.{Outcome, first, ruled}
+use Rattle.strlib.specs.Refusal.{Outcome, first, ruled, gives}
 use Rattle.strlib.specs.Store.{put}
 use Rattle.strlib.specs.declared.StrPtr.{StrPtr}
 use Rattle.moving.specs.Moving.{reversed}
@@ -37,3 +38,10 @@ unfoldable pub reverseFromRule : List ℕ → StrPtr → StrPtr → Outcome StrP
 reverseFromRule s destination source =
     let xs : List ℕ = reversed (textOf s source) in
     ruled (reverseFromRefusal s destination source) (sized destination (length xs)) (put s (destination .start) xs) s
+
+-- a pointer that a reversal gives is good for the store
+abbrev pub ReverseGood : Type 0
+ReverseGood = (s : List ℕ) (string r : StrPtr) → reverseRule s string .0 ≡ gives r → goodIn (length s) r ≡ true
+
+abbrev pub ReverseFromGood : Type 0
+ReverseFromGood = (s : List ℕ) (destination source r : StrPtr) → reverseFromRule s destination source .0 ≡ gives r → goodIn (length s) r ≡ true

@@ -1,5 +1,5 @@
--- What a program of the desk reads, how its run ended, and the line that it writes on standard error of a run that is not complete.
--- Assumes nothing.
+-- What a program of the desk reads, how its run ended, and the line that it writes on standard error of a run that is
+-- not complete. Assumes nothing.
 use Prim.Native.Nat.{ℕ}
 use mathlib.Core.Bool.{Bool, true, false, cond}
 use mathlib.Core.List.{List, [], _∷_, _++_}

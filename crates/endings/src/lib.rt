@@ -7,8 +7,9 @@ ghost use Rattle.buffer.specs.Buffer.{grown};
 ghost use Rattle.endings.specs.Ending.{isGoing, afterWrite, sourceOf, sourceText, failureText, unwritten, usageText, complaintText};
 ghost use Rattle.endings.specs.Ending.{shown as Ending·shown};
 
-// How a run stands: it goes on, it came to its input's end, or why it did not: it was called wrongly, its input could not
-// be opened or not be read, or its output could not be written. A total that could not be written makes it unwritten too.
+// How a run stands: it goes on, it came to its input's end, or why it did not: it was called wrongly, its input could
+// not be opened or not be read, or its output could not be written. A total that could not be written makes it
+// unwritten too.
 pub enum Ending {
     Going,
     Complete,

@@ -1,4 +1,5 @@
--- The fourteen examples of 01, "Examples to prove, as a group", under a single claim on the definitions. Assumes nothing.
+-- The fourteen examples of 01, "Examples to prove, as a group", under a single claim on the definitions. Assumes
+-- nothing.
 use Prim.Native.Nat.{ℕ}
 use mathlib.Core.Path.{_≡_, refl}
 use mathlib.Core.Bool.{true, false}
@@ -18,8 +19,8 @@ use Rattle.number.specs.Number.{readRefusal, readRule}
 abbrev pub host : List ℕ
 host = bytes "0123456789"
 
--- A to I: string j from pos1 to pos2. J to L: codes 0, equal, and 4, greater; styles 0, padded, 1, exact, and 2, ignore; yes or no, the sign of
--- length 1 − length 2, the split. M and N: a store that holds just the text
+-- A to I: string j from pos1 to pos2. J to L: codes 0, equal, and 4, greater; styles 0, padded, 1, exact, and 2,
+-- ignore; yes or no, the sign of length 1 − length 2, the split. M and N: a store that holds just the text
 pub record Fourteen : Type 0 where
   pub A : plainSearch (bytes "56789" ∷ bytes "34" ∷ bytes "23" ∷ []) host ≡ found 3 3 5
   pub B : plainSearch (bytes "34" ∷ bytes "34567" ∷ []) host ≡ found 1 4 6

@@ -97,7 +97,7 @@ module _ (a : CharAnswer) where
 module _ (a : LabelPlace) where
   pub name-found : (place n : ℕ) → a ≡ Named place n → _≡_ {A = FlatName} (record { refusal = 0; found = true; place = place; length = n }) (flatName (labelPlaced a))
   unfolding flatName
-  name-found place length e = rw e
+  name-found place n e = rw e
 
   module _ (r : FlatName) where
     pub name-nothing : a ≡ Missing → r ≡ noName 0 → r ≡ flatName (labelPlaced a)
@@ -112,7 +112,7 @@ module _ (a : LabelPlace) where
 module _ (a : LabelPlace) (r : FlatPart) (p : StrPtr) (h : r ≡ flatPart p) where
   pub part-found : (place n : ℕ) → a ≡ Named place n → p ≡ pointer place n n → r ≡ flatPart (namePart (labelPlaced a))
   unfolding namePart
-  part-found place length e q = rw (e, ← q) h
+  part-found place n e q = rw (e, ← q) h
 
   pub part-missing : a ≡ Missing → p ≡ noString → r ≡ flatPart (namePart (labelPlaced a))
   unfolding namePart

@@ -1,7 +1,7 @@
 -- Laws of the flat strings and copies, case by case of the answer. Assumes nothing.
 use Prim.Native.Nat.{ℕ}
 use mathlib.Core.Path.{_≡_, refl}
-use mathlib.Core.Bool.{Bool, false}
+use mathlib.Core.Bool.{false}
 use borrow.Author.Needs.{needs}
 use Rattle.strlib.specs.Refusal.{answered}
 use Rattle.strlib.specs.declared.StrPtr.{StrPtr}

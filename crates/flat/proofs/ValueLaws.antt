@@ -14,7 +14,7 @@ use Rattle.number.specs.declared.NumberAnswer.the-variants.{Given as Number, Re
 use Rattle.charset.specs.Rule.{setAnswered}
 use Rattle.charset.specs.declared.SetAnswer.{SetAnswer}
 use Rattle.charset.specs.declared.SetAnswer.the-variants.{Done as Set, Refused as Unset}
-use Rattle.translator.specs.Translate.{translated}
+use Rattle.translator.specs.Translate.{translateAnswered}
 use Rattle.translator.specs.declared.TranslateAnswer.{TranslateAnswer}
 use Rattle.translator.specs.declared.TranslateAnswer.the-variants.{Done as Translated, Refused as Untranslated}
 use Rattle.desk.specs.Cue.{cueAnswered}
@@ -87,11 +87,11 @@ module _ (a : SetAnswer) where
   set-refused n e = rw e
 
 module _ (a : TranslateAnswer) where
-  pub translated-done : a ≡ Translated → 0 ≡ flatDone (translated a)
+  pub translated-done : a ≡ Translated → 0 ≡ flatDone (translateAnswered a)
   unfolding flatDone
   translated-done e = rw e
 
-  pub translated-refused : (n : ℕ) → a ≡ Untranslated n → n ≡ flatDone (translated a)
+  pub translated-refused : (n : ℕ) → a ≡ Untranslated n → n ≡ flatDone (translateAnswered a)
   unfolding flatDone
   translated-refused n e = rw e
 

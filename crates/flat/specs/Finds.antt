@@ -1,5 +1,5 @@
--- The flat answers of a search: nothing found is no refusal, and its fields are 0 all the same, but for the number that a table's run read.
--- Assumes nothing.
+-- The flat answers of a search: nothing found is no refusal, and its fields are 0 all the same, but for the number that
+-- a table's run read. Assumes nothing.
 use Prim.Native.Nat.{ℕ}
 use mathlib.Core.Bool.{true, false}
 use Rattle.strlib.specs.Refusal.{Outcome, refused, gives, Sought, nowhere, at}

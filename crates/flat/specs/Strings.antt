@@ -1,5 +1,5 @@
--- The flat answers that are strings, copies and parts: a refusal is its number with 0 in every other field, and a value has the number 0;
--- parts and labels are never refused. Assumes nothing.
+-- The flat answers that are strings, copies and parts: a refusal is its number with 0 in every other field, and a value
+-- has the number 0; parts and labels are never refused. Assumes nothing.
 use Prim.Native.Nat.{ℕ}
 use mathlib.Core.Bool.{false}
 use mathlib.Core.List.{List}

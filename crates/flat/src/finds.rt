@@ -200,11 +200,11 @@ pub fn name(a: LabelPlace) -> FlatName
     ensures { λ r. ⌜ r ≡ flatName (labelPlaced a) ⌝ }
 {
     match a {
-        LabelPlace::Found { place, length } => FlatName {
+        LabelPlace::Found { place, length: n } => FlatName {
             refusal: 0,
             found: true,
             place,
-            length,
+            length: n,
         },
         LabelPlace::Missing => no_name(0),
         LabelPlace::Refused(refusal) => no_name(refusal),
@@ -216,7 +216,7 @@ pub fn name_part(a: LabelPlace) -> FlatPart
     ensures { λ r. ⌜ r ≡ flatPart (namePart (labelPlaced a)) ⌝ }
 {
     match a {
-        LabelPlace::Found { place, length } => strings::part(StrPtr::full(place, length)),
+        LabelPlace::Found { place, length: n } => strings::part(StrPtr::full(place, n)),
         LabelPlace::Missing => strings::part(StrPtr::full(0, 0)),
         LabelPlace::Refused(_) => strings::part(StrPtr::full(0, 0)),
     }

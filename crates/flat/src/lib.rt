@@ -1,5 +1,6 @@
 // The answers as C takes them: each a flat struct, with the refusal's number first and 0 for none. On a refusal the
-// other fields are 0, but for what a burst's run carries; where nothing was found too, but for the number read by a table's run. One function for each answer of the library makes the struct.
+// other fields are 0, but for what a burst's run carries; where nothing was found too, but for the number read by a
+// table's run. One function for each answer of the library makes the struct.
 mod finds;
 mod runs;
 mod strings;

@@ -12,7 +12,7 @@ ghost use Rattle.number.specs.Number.{numberAnswered};
 ghost use Rattle.desk.specs.Cue.{cueAnswered};
 ghost use Rattle.desk.specs.Label.{labelCounted, labelAdded};
 ghost use Rattle.charset.specs.Rule.{setAnswered};
-ghost use Rattle.translator.specs.Translate.{translated};
+ghost use Rattle.translator.specs.Translate.{translateAnswered};
 ghost use Rattle.flat.specs.Values.{flatComparison, flatNumber, flatCue, flatSize, flatDone};
 
 #[repr(C)]
@@ -118,7 +118,7 @@ pub fn set(a: SetAnswer) -> u8
 }
 
 pub fn translated(a: TranslateAnswer) -> u8
-    ensures { λ r. ⌜ r ≡ flatDone (translated a) ⌝ }
+    ensures { λ r. ⌜ r ≡ flatDone (translateAnswered a) ⌝ }
 {
     match a {
         TranslateAnswer::Done => 0,

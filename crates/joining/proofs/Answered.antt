@@ -9,11 +9,10 @@ use borrow.Author.Tests.{leb-true, le-leb, lt-leb}
 use Rattle.strlib.proofs.Refusing.{bool-case}
 use Rattle.strlib.proofs.Storing.{put-none}
 use Rattle.strlib.proofs.Texts.{texts-long}
-use Rattle.strlib.specs.Pointer.{sized, goodIn, clear, texts}
+use Rattle.strlib.specs.Pointer.{sized, goodIn, clear, texts, joined}
 use Rattle.strlib.specs.Refusal.{gives}
 use Rattle.strlib.specs.declared.StrPtr.{StrPtr}
-use Rattle.joining.specs.Joining.{joined}
-use Rattle.joining.specs.Resuming.{offset, piece, completes, nextPlace, roundOf, resumed, joinFromRefusal, joinFromRule}
+use Rattle.joining.specs.Resuming.{offset, piece, completes, nextPlace, roundOf, roundFrom, joinFromRefusal, joinFromRule}
 use Rattle.joining.specs.RoundRule.{PlaceRule, PlaceRules, Unmoved, NothingMoves, AnyLength}
 use Rattle.joining.specs.declared.Place.{Place}
 use Rattle.joining.specs.declared.Round.{Round}
@@ -73,5 +72,5 @@ nothing-moves s destination list count from r z left e =
     rw (call-round s destination list count from r e) (unmoved s destination list count from z left r e)
 
 pub any-length : AnyLength
-unfolding joinFromRule joinFromRefusal goodIn clear sized resumed roundOf
+unfolding joinFromRule joinFromRefusal goodIn clear sized roundFrom roundOf
 any-length s destination list count from n h k = rw (le-leb n (destination .maximum) k, le-leb (destination .length) (destination .maximum) h)

@@ -6,15 +6,14 @@ use mathlib.Core.List.{List}
 use Prim.Native.Nat.{ℕ, zero, suc, _≤_, _<_}
 use native.Mathlib.Omega.{arith}
 use lib.ListN.{length, take}
-use Rattle.strlib.specs.Pointer.{sized, goodIn, textOf, texts}
+use Rattle.strlib.specs.Pointer.{sized, goodIn, textOf, texts, joined}
 use Rattle.strlib.specs.Refusal.{gives}
 use Rattle.strlib.specs.Store.{put}
 use Rattle.strlib.specs.declared.StrPtr.{StrPtr}
 use Rattle.strlib.proofs.Pointing.{either, good-is}
 use Rattle.strlib.proofs.Refusing.{ruled-gave}
 use Rattle.strlib.proofs.Storing.{part-put}
-use Rattle.joining.specs.Joining.{joined}
-use Rattle.joining.specs.Resuming.{offset, piece, completes, roundOf, resumed, joinFromRefusal, joinFromRule}
+use Rattle.joining.specs.Resuming.{offset, piece, completes, roundOf, roundFrom, joinFromRefusal, joinFromRule}
 use Rattle.joining.specs.RoundRule.{placeAfter, movedAfter, roundsFor, resumesAt, Unfinished, Chain, heldAfter, ChainRule, ChainRules}
 use Rattle.joining.specs.declared.Place.{Place}
 use Rattle.joining.specs.declared.Round.{Round}
@@ -31,7 +30,7 @@ module _ (s : List ℕ) (destination : StrPtr) (list : List StrPtr) (count : ℕ
 
   given : (joinFromRefusal s destination list count from ≡ 0)
       × ((roundOf xss destination o ≡ r) × (joinFromRule s destination list count from .1 ≡ put s (destination .start) (piece xss (destination .maximum) o)))
-  unfolding joinFromRule resumed
+  unfolding joinFromRule roundFrom
   given = ruled-gave (joinFromRefusal s destination list count from) (roundOf xss destination o) r (put s (destination .start) (piece xss (destination .maximum) o)) s e
 
   pub call-passed : joinFromRefusal s destination list count from ≡ 0

@@ -14,7 +14,7 @@ use mir.Syntax.{w64}
 use mir.Val.{Fits}
 use borrow.Author.Needs.{needs}
 use borrow.Author.Tests.{le-leb, lt-leb, lt-ltb, le-ltb}
-use Rattle.strlib.specs.Pointer.{sized, goodIn, textOf, texts, clear}
+use Rattle.strlib.specs.Pointer.{sized, goodIn, textOf, texts, clear, joined}
 use Rattle.strlib.specs.Store.{put}
 use Rattle.strlib.specs.declared.StrPtr.{StrPtr}
 use Rattle.strlib.proofs.Pointing.{good-is, text-length}
@@ -23,8 +23,7 @@ use Rattle.strlib.proofs.Storing.{drop-take, put-none, put-put, put-length}
 use Rattle.moving.specs.Moving.{moved}
 use Rattle.moving.proofs.Moving.{moved-in}
 use Rattle.moving.proofs.Keeping.{text-kept}
-use Rattle.joining.specs.Joining.{joined}
-use Rattle.joining.specs.Resuming.{lengthAt, before, placeAt, piece, completes, nextPlace, roundOf, resumed}
+use Rattle.joining.specs.Resuming.{lengthAt, before, placeAt, piece, completes, nextPlace, roundOf, roundFrom}
 use Rattle.joining.specs.Inner.{Next, movedNext, Resumable}
 use Rattle.joining.specs.declared.Round.{Round}
 use Rattle.strlib.proofs.Texts.{texts-long, texts-drop}
@@ -61,25 +60,25 @@ unfolding textOf
 part-text s p q m h = sym (rw (drop-take, take-take m (p .length - q) (drop q (drop (p .start) s)) (omega arith), drop-drop))
 
 -- n characters are written, and what is left starts behind q characters of the string of index i
-pub record Filling (s t : List ℕ) (destination : StrPtr) (list : List StrPtr) (count first skip n i q : ℕ) : Type 0 where
-  pub given : Resumable s destination list count first skip
+pub record Filling (s t : List ℕ) (destination : StrPtr) (list : List StrPtr) (count index skip n i q : ℕ) : Type 0 where
+  pub given : Resumable s destination list count index skip
   pub whole : length list ≡ 32
   pub string : i ≤ count
   pub character : q ≤ lengthAt (take count list) i
   pub long : length t ≡ length s
   pub size : n ≤ destination .maximum
-  pub few : n ≤ length (drop (before (texts s (take count list)) first skip) (joined (texts s (take count list))))
-  pub bytes : t ≡ put s (destination .start) (take n (drop (before (texts s (take count list)) first skip) (joined (texts s (take count list)))))
-  pub left : drop n (drop (before (texts s (take count list)) first skip) (joined (texts s (take count list)))) ≡ drop q (joined (drop i (texts s (take count list))))
-  pub next : placeAt 1 (texts s (take count list)) (before (texts s (take count list)) first skip + destination .maximum)
+  pub few : n ≤ length (drop (before (texts s (take count list)) index skip) (joined (texts s (take count list))))
+  pub bytes : t ≡ put s (destination .start) (take n (drop (before (texts s (take count list)) index skip) (joined (texts s (take count list)))))
+  pub left : drop n (drop (before (texts s (take count list)) index skip) (joined (texts s (take count list)))) ≡ drop q (joined (drop i (texts s (take count list))))
+  pub next : placeAt 1 (texts s (take count list)) (before (texts s (take count list)) index skip + destination .maximum)
       ≡ placeAt (i + 1) (drop i (texts s (take count list))) (q + (destination .maximum - n))
 
-pub fill-none : (s : List ℕ) (destination : StrPtr) (list : List StrPtr) (count first skip : ℕ) → Resumable s destination list count first skip → length list ≡ 32
-    → Filling s s destination list count first skip 0 first skip
-fill-none s destination list count first skip R L =
+pub fill-none : (s : List ℕ) (destination : StrPtr) (list : List StrPtr) (count index skip : ℕ) → Resumable s destination list count index skip → length list ≡ 32
+    → Filling s s destination list count index skip 0 index skip
+fill-none s destination list count index skip R L =
     let xss : List (List ℕ) = texts s (take count list) in
-    let l : first ≤ length xss = rw (texts-long s (take count list), length-take) (omega (arith, R .few, R .start)) in
-    let b : 1 + first ≡ first + 1 = omega arith in
+    let l : index ≤ length xss = rw (texts-long s (take count list), length-take) (omega (arith, R .few, R .start)) in
+    let b : 1 + index ≡ index + 1 = omega arith in
     record {
       given = R;
       whole = L;
@@ -89,17 +88,17 @@ fill-none s destination list count first skip R L =
       size = omega arith;
       few = omega arith;
       bytes = sym (put-none s (destination .start));
-      left = joined-drop xss first skip;
-      next = rw (before-add xss first skip (destination .maximum), place-skip 1 xss first (skip + destination .maximum) l, b, sub-zero);
+      left = joined-drop xss index skip;
+      next = rw (before-add xss index skip (destination .maximum), place-skip 1 xss index (skip + destination .maximum) l, b, sub-zero);
     }
 
-module _ (s t : List ℕ) (destination : StrPtr) (list : List StrPtr) (count first skip n i q : ℕ) (F : Filling s t destination list count first skip n i q) where
+module _ (s t : List ℕ) (destination : StrPtr) (list : List StrPtr) (count index skip n i q : ℕ) (F : Filling s t destination list count index skip n i q) where
   abbrev xss : List (List ℕ)
   xss = texts s (take count list)
 
   -- what the call is to write, if it fits
   abbrev what : List ℕ
-  what = drop (before xss first skip) (joined xss)
+  what = drop (before xss index skip) (joined xss)
 
   abbrev behind : List ℕ
   behind = joined (drop i xss)
@@ -112,8 +111,8 @@ module _ (s t : List ℕ) (destination : StrPtr) (list : List StrPtr) (count fir
 
   -- no string is left
   pub fill-end : count ≤ i → (r : Round) → r ≡ record { to = sized destination n; completed = true; next = record { string = count + 1; character = 1 } }
-      → (r, t) ≡ resumed s destination (take count list) first skip
-  unfolding resumed roundOf piece completes nextPlace placeAt joined texts
+      → (r, t) ≡ roundFrom s destination (take count list) index skip
+  unfolding roundFrom roundOf piece completes nextPlace placeAt joined texts
   fill-end h r f =
       let e : i ≡ count = omega (arith, F .string) in
       let d : drop i xss ≡ [] = rw (texts-drop s (take count list) i, prefix-end list count i (omega arith)) refl in
@@ -121,7 +120,7 @@ module _ (s t : List ℕ) (destination : StrPtr) (list : List StrPtr) (count fir
       let a : length what ≡ n = omega (arith, rest-long, F .few) in
       let w : take (destination .maximum) what ≡ take n what = rw (take-all (destination .maximum) what (omega (arith, F .size)), take-all n what (omega arith)) in
       let l : length (take n what) ≡ n = rw length-take (omega arith) in
-      let p : placeAt 1 xss (before xss first skip + destination .maximum) ≡ record { string = count + 1; character = 1 } = F .next ∙ rw (d, e) in
+      let p : placeAt 1 xss (before xss index skip + destination .maximum) ≡ record { string = count + 1; character = 1 } = F .next ∙ rw (d, e) in
       let c : leb (length what) (destination .maximum) ≡ true = le-leb (length what) (destination .maximum) (omega (arith, F .size)) in
       rw (f, F .bytes, w, l, p, c)
 
@@ -161,7 +160,7 @@ module _ (s t : List ℕ) (destination : StrPtr) (list : List StrPtr) (count fir
     fill-next = record { small = omega (arith, F .given .small, F .long); room = rw (F .long) (F .given .room); part = rw (F .long) x-good; fits = F .size; character = fill-sub }
 
     -- the string is used up
-    used-up : x .length ≤ q → Filling s t destination list count first skip n (i + 1) 0
+    used-up : x .length ≤ q → Filling s t destination list count index skip n (i + 1) 0
     unfolding placeAt joined
     used-up g =
         let e : q ≡ x .length = omega (arith, fill-sub) in
@@ -204,7 +203,7 @@ module _ (s t : List ℕ) (destination : StrPtr) (list : List StrPtr) (count fir
           ∙ rw (cons, drop-append-le q (textOf s x) (joined (drop (i + 1) xss)) (omega (arith, text, fill-sub)), take-append-le m (drop q (textOf s x)) (joined (drop (i + 1) xss)) b)))
 
       -- m characters are moved
-      fill-more : Filling s t′ destination list count first skip (n + m) i (q + m)
+      fill-more : Filling s t′ destination list count index skip (n + m) i (q + m)
       fill-more =
           let v : List ℕ = take n what in
           let l : length v ≡ n = rw length-take (omega (arith, F .few)) in
@@ -229,31 +228,31 @@ module _ (s t : List ℕ) (destination : StrPtr) (list : List StrPtr) (count fir
           }
 
 -- a turn: m characters are moved, and then the string is used up or the maximum is reached
-module _ (s t t′ : List ℕ) (destination d : StrPtr) (list : List StrPtr) (count first skip n i q m : ℕ) (F : Filling s t destination list count first skip n i q)
+module _ (s t t′ : List ℕ) (destination d : StrPtr) (list : List StrPtr) (count index skip n i q m : ℕ) (F : Filling s t destination list count index skip n i q)
     (h : i < count) (e : (m, t′) ≡ movedNext t destination n (getD list i d) q) where
-  turned : Filling s t′ destination list count first skip (n + m) i (q + m)
-  turned = fill-more s t destination list count first skip n i q F d h m t′ e
+  turned : Filling s t′ destination list count index skip (n + m) i (q + m)
+  turned = fill-more s t destination list count index skip n i q F d h m t′ e
 
-  pub fill-on : getD list i d .length ≤ q + m → Filling s t′ destination list count first skip (n + m) (i + 1) 0
-  fill-on = used-up s t′ destination list count first skip (n + m) i (q + m) turned d h
+  pub fill-on : getD list i d .length ≤ q + m → Filling s t′ destination list count index skip (n + m) (i + 1) 0
+  fill-on = used-up s t′ destination list count index skip (n + m) i (q + m) turned d h
 
   pub fill-stop : q + m < getD list i d .length → (r : Round)
       → r ≡ record { to = sized destination (n + m); completed = false; next = record { string = i + 1; character = q + m + 1 } }
-      → (r, t′) ≡ resumed s destination (take count list) first skip
-  unfolding resumed roundOf piece completes nextPlace placeAt
+      → (r, t′) ≡ roundFrom s destination (take count list) index skip
+  unfolding roundFrom roundOf piece completes nextPlace placeAt
   fill-stop k r f =
       let xss : List (List ℕ) = texts s (take count list) in
-      let what : List ℕ = drop (before xss first skip) (joined xss) in
+      let what : List ℕ = drop (before xss index skip) (joined xss) in
       let x : StrPtr = getD list i d in
-      let bl : x .length ≤ length (joined (drop i xss)) = behind-long s t destination list count first skip n i q F d h in
-      let rl : length what - (n + m) ≡ length (joined (drop i xss)) - (q + m) = rest-long s t′ destination list count first skip (n + m) i (q + m) turned in
-      let full : n + m ≡ destination .maximum = omega (arith, F .size, em s t destination list count first skip n i q F d h m t′ e) in
+      let bl : x .length ≤ length (joined (drop i xss)) = behind-long s t destination list count index skip n i q F d h in
+      let rl : length what - (n + m) ≡ length (joined (drop i xss)) - (q + m) = rest-long s t′ destination list count index skip (n + m) i (q + m) turned in
+      let full : n + m ≡ destination .maximum = omega (arith, F .size, em s t destination list count index skip n i q F d h m t′ e) in
       let l : length (take (destination .maximum) what) ≡ n + m = rw length-take (omega (arith, turned .few)) in
-      let tx : length (textOf s x) ≡ x .length = text s t destination list count first skip n i q F d h in
+      let tx : length (textOf s x) ≡ x .length = text s t destination list count index skip n i q F d h in
       let z : q + m + (destination .maximum - (n + m)) ≡ q + m = omega arith in
       let lt : ltb (q + m) (length (textOf s x)) ≡ true = lt-ltb (q + m) (length (textOf s x)) (omega arith) in
-      let p : placeAt 1 xss (before xss first skip + destination .maximum) ≡ record { string = i + 1; character = q + m + 1 } =
-      turned .next ∙ rw (z, cons s t destination list count first skip n i q F d h, lt) in
+      let p : placeAt 1 xss (before xss index skip + destination .maximum) ≡ record { string = i + 1; character = q + m + 1 } =
+      turned .next ∙ rw (z, cons s t destination list count index skip n i q F d h, lt) in
       let c : leb (length what) (destination .maximum) ≡ false = lt-leb (length what) (destination .maximum) (omega (arith, turned .few)) in
       rw (f, turned .bytes, l, p, c, full)
 

@@ -1,33 +1,24 @@
 -- Every pointer that a call gives is good for the store: it is the destination with a length that keeps to its maximum.
 -- Assumes nothing.
-use mathlib.Core.Path.{_≡_}
-use mathlib.Core.Bool.{Bool, true}
 use mathlib.Core.List.{List}
 use Prim.Native.Nat.{ℕ}
 use native.Mathlib.Omega.{arith}
 use lib.ListN.{length, take, drop, length-take}
-use Rattle.strlib.specs.Pointer.{goodIn, texts}
-use Rattle.strlib.specs.Refusal.{gives}
-use Rattle.strlib.specs.declared.StrPtr.{StrPtr}
+use Rattle.strlib.specs.Pointer.{texts, joined}
 use Rattle.strlib.proofs.Pointing.{good-sized}
-use Rattle.copying.specs.declared.Wrote.{Wrote}
 use Rattle.copying.proofs.Goodness.{bounded-good}
-use Rattle.joining.specs.Joining.{joined, joinRefusal, joinRule}
-use Rattle.joining.specs.Resuming.{offset, piece, roundOf, joinFromRule}
-use Rattle.joining.specs.declared.Place.{Place}
-use Rattle.joining.specs.declared.Round.{Round}
+use Rattle.joining.specs.Joining.{joinRefusal, joinRule, JoinGood}
+use Rattle.joining.specs.Resuming.{offset, piece, roundOf, JoinFromGood}
 use Rattle.joining.proofs.Joining.{join-passed}
 use Rattle.joining.proofs.Chaining.{call-good, call-round}
 
-pub join-good : (s : List ℕ) (destination : StrPtr) (r : Wrote) (list : List StrPtr) (count : ℕ) (pad : Bool) → joinRule s destination list count pad .0 ≡ gives r
-    → goodIn (length s) (r .to) ≡ true
+pub join-good : JoinGood
 unfolding joinRule
-join-good s destination r list count pad e =
+join-good s destination list count pad r e =
     bounded-good (joinRefusal s destination list count) s destination (joined (texts s (take count list))) pad r e
     (λ z. join-passed s destination list count z .listed .room)
 
-pub join-from-good : (s : List ℕ) (destination : StrPtr) (list : List StrPtr) (count : ℕ) (from : Place) (r : Round) → joinFromRule s destination list count from .0 ≡ gives r
-    → goodIn (length s) (r .to) ≡ true
+pub join-from-good : JoinFromGood
 unfolding piece roundOf
 join-from-good s destination list count from r e =
     let xs : List ℕ = drop (offset (texts s (take count list)) from) (joined (texts s (take count list))) in

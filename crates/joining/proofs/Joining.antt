@@ -8,7 +8,7 @@ use lib.Dec.{leb}
 use lib.ListN.{length, take}
 use borrow.Author.Needs.{needs}
 use borrow.Author.Tests.{leb-true}
-use Rattle.strlib.specs.Pointer.{sized, storeFits, goodIn, texts, readable, clear, all}
+use Rattle.strlib.specs.Pointer.{sized, storeFits, goodIn, texts, readable, clear, all, joined}
 use Rattle.strlib.specs.Refusal.{refused, gives, first, also}
 use Rattle.strlib.specs.Store.{put}
 use Rattle.strlib.specs.declared.StrPtr.{StrPtr}
@@ -18,8 +18,8 @@ use Rattle.strlib.proofs.Refusing.{first-is, passed, ruled-no, ruled-yes}
 use Rattle.copying.specs.Copying.{boundedCopy, finished}
 use Rattle.copying.specs.declared.Wrote.{Wrote}
 use Rattle.copying.proofs.Padding.{bounded}
-use Rattle.joining.specs.Joining.{joined, listedChecks, listedRefusal, joinRefusal, joinRule}
-use Rattle.joining.specs.Resuming.{lengthAt, placeIn, before, piece, completes, roundOf, resumed, joinFromRefusal, joinFromRule}
+use Rattle.joining.specs.Joining.{listedChecks, listedRefusal, joinRefusal, joinRule}
+use Rattle.joining.specs.Resuming.{lengthAt, placeIn, before, piece, completes, roundOf, roundFrom, joinFromRefusal, joinFromRule}
 use Rattle.joining.specs.Inner.{Resumable}
 use Rattle.joining.specs.declared.Place.{Place}
 use Rattle.joining.specs.declared.Round.{Round}
@@ -83,8 +83,8 @@ module _ (s : List ℕ) (destination : StrPtr) (list : List StrPtr) (count : ℕ
       record { join = record { listed = listed-passed (b .0); apart = ok .1 .0 }; place = ok .0 }
 
   -- what the loop asks of both
-  resumable : JoinPassed → (first skip : ℕ) → first ≤ count → skip ≤ lengthAt (take count list) first → Resumable s destination list count first skip
-  resumable ok first skip h k =
+  resumable : JoinPassed → (index skip : ℕ) → index ≤ count → skip ≤ lengthAt (take count list) index → Resumable s destination list count index skip
+  resumable ok index skip h k =
       record {
         small = fits-is s (ok .listed .fits);
         few = leb-true count 32 (ok .listed .few);
@@ -112,14 +112,14 @@ module _ (s : List ℕ) (destination : StrPtr) (list : List StrPtr) (count k : �
     abbrev all-texts : List (List ℕ)
     all-texts = texts s (take count list)
 
-    module _ (r : Round) (t : List ℕ) (f : (r, t) ≡ resumed s destination (take count list) 0 0) where
+    module _ (r : Round) (t : List ℕ) (f : (r, t) ≡ roundFrom s destination (take count list) 0 0) where
       size : r .to .length ≡ length (take (destination .maximum) (joined all-texts))
-      unfolding resumed roundOf sized piece before joined
+      unfolding roundFrom roundOf sized piece before joined
       size = ap (λ (p : Round × List ℕ). p .0 .to .length) f
 
       pub join-done : (pad : Bool) (w : Wrote) (t′ : List ℕ) → (w, t′) ≡ finished t destination (r .to .length) pad (r .completed)
           → (gives w, t′) ≡ joinRule s destination list count pad
-      unfolding joinRule resumed roundOf piece before joined completes
+      unfolding joinRule roundFrom roundOf piece before joined completes
       join-done pad w t′ g =
           let p : t ≡ put s (destination .start) (take (destination .maximum) (joined all-texts)) = ap (λ (x : Round × List ℕ). x .1) f in
           bounded k (joinRefusal s destination list count) s destination (joined all-texts) pad (r .completed) (r .to .length) w t′ e z
@@ -148,7 +148,7 @@ module _ (s : List ℕ) (destination : StrPtr) (list : List StrPtr) (count : ℕ
     pub from-resumes : Resumable s destination list count (from .string - 1) (from .character - 1)
     from-resumes = resumable s destination list count (ok-from .join) (from .string - 1) (from .character - 1) (omega (arith, at-place)) (omega (arith, at-place))
 
-    pub from-done : (r : Round) (t : List ℕ) → (r, t) ≡ resumed s destination (take count list) (from .string - 1) (from .character - 1)
+    pub from-done : (r : Round) (t : List ℕ) → (r, t) ≡ roundFrom s destination (take count list) (from .string - 1) (from .character - 1)
         → (gives r, t) ≡ joinFromRule s destination list count from
     unfolding joinFromRule
     from-done r t f =

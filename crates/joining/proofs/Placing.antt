@@ -11,10 +11,10 @@ use lib.ListN.{length, take, drop, getD, length-take, length-append}
 use lib.Seq.{getD-take}
 use borrow.Author.Needs.{needs}
 use borrow.Author.Tests.{leb-true, le-leb, lt-leb, lt-ltb, le-ltb}
+use Rattle.strlib.specs.Pointer.{joined}
 use Rattle.strlib.specs.declared.StrPtr.{StrPtr}
 use Rattle.strlib.proofs.Pointing.{either, leb-same}
 use Rattle.strlib.proofs.Refusing.{and-both}
-use Rattle.joining.specs.Joining.{joined}
 use Rattle.joining.specs.Resuming.{lengthAt, placeIn, before, offset, placeAt}
 use Rattle.joining.specs.declared.Place.{Place}
 use Rattle.joining.proofs.Texts.{length-at-is, length-at-none, before-end}

@@ -1,18 +1,26 @@
 -- The place rule and the round rule. A place is an offset, and each round adds m to it, up to T; so the pieces of n
 -- rounds are the first n * m characters, and the rule is arithmetic on T / m. Assumes nothing.
 use mathlib.Core.Path.{_≡_, _∙_}
-use mathlib.Core.List.{List}
+use mathlib.Core.Bool.{true, false}
+use mathlib.Core.List.{List, []}
 use Prim.Native.Nat.{ℕ, zero, suc, _+_, _-_, _*_, _/_, _≤_, _<_, min}
 use native.Mathlib.Nat.{suc-mul, zero-mul, mul-le-mul-right, div-mul-le-self, lt-div-mul-add}
 use native.Mathlib.Omega.{arith}
-use lib.ListN.{length, drop, take, length-drop, drop-of-length-le}
+use lib.ListN.{length, drop, take, getD, length-drop, drop-of-length-le}
 use lib.Seq.{take-add, take-all}
 use borrow.Author.Tests.{leb-true, leb-false, le-leb, lt-leb}
 use Rattle.strlib.proofs.Pointing.{either}
-use Rattle.joining.specs.Joining.{joined}
+use Rattle.strlib.specs.Pointer.{joined}
 use Rattle.joining.specs.Resuming.{before, offset, piece, completes, nextPlace}
-use Rattle.joining.specs.RoundRule.{placeAfter, movedAfter, roundsFor, RoundRule, RoundRules, PlaceLaw}
+use Rattle.joining.specs.RoundRule.{placeAfter, movedAfter, roundsFor, RoundRule, RoundRules}
 use Rattle.joining.proofs.Placing.{place-on, place-behind, place-offset}
+
+-- the place rule on the definitions
+pub record PlaceLaw (xss : List (List ℕ)) (m o : ℕ) : Type 0 where
+  pub behind : completes xss m o ≡ true → nextPlace xss m o ≡ record { string = length xss + 1; character = 1 }
+  pub inside : completes xss m o ≡ false
+      → ((1 ≤ nextPlace xss m o .string) × (nextPlace xss m o .string ≤ length xss))
+      × ((1 ≤ nextPlace xss m o .character) × (nextPlace xss m o .character ≤ length (getD xss (nextPlace xss m o .string - 1) [])))
 
 pub place-rule : (xss : List (List ℕ)) (m o : ℕ) → PlaceLaw xss m o
 unfolding completes nextPlace

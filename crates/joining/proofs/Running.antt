@@ -1,28 +1,30 @@
 -- Calling again on the store that the call before left: where the first call is not refused no later one is, since the
 -- listed strings stay as they were and each place that a call gives is one that a call takes. So these calls are a
 -- chain, and the round rule holds of them. Assumes nothing.
-use mathlib.Core.Path.{_≡_, refl, sym, _∙_}
+use mathlib.Core.Path.{_≡_, refl, sym, _∙_, ap}
 use mathlib.Core.Bool.{Bool, true, false}
 use mathlib.Core.List.{List}
 use Prim.Native.Nat.{ℕ, zero, suc, _+_, _-_, _≤_}
 use native.Mathlib.Omega.{arith}
 use lib.ListN.{length, take, length-take}
 use borrow.Author.Tests.{leb-true}
-use Rattle.strlib.specs.Pointer.{storeFits, goodIn, readable, all, texts}
-use Rattle.strlib.specs.Refusal.{gives, outcome, after, ruled}
+use Rattle.strlib.specs.Pointer.{storeFits, goodIn, readable, all, texts, sized}
+use Rattle.strlib.specs.Refusal.{gives, outcome, after, ruled, Outcome}
 use Rattle.strlib.specs.Store.{put}
 use Rattle.strlib.specs.declared.StrPtr.{StrPtr}
 use Rattle.strlib.proofs.Pointing.{good-is}
 use Rattle.strlib.proofs.Storing.{put-length}
-use Rattle.joining.specs.Resuming.{placeIn, offset, piece, completes, nextPlace, roundOf, resumed, joinFromRefusal, joinFromRule}
+use Rattle.joining.specs.Resuming.{placeIn, offset, piece, completes, nextPlace, roundOf, roundFrom, joinFromRefusal, joinFromRule}
 use Rattle.joining.specs.RoundRule.{firstPlace, placeAfter, resumesAt, Chain, roundAfter, storeAfter, AgainRule, AgainRules}
 use Rattle.joining.specs.declared.Place.{Place}
+use Rattle.joining.specs.declared.Round.{Round}
 use Rattle.strlib.proofs.Texts.{texts-long, texts-readable}
 use Rattle.joining.proofs.Texts.{texts-at, texts-kept}
 use Rattle.joining.proofs.Placing.{is-place}
 use Rattle.joining.proofs.Joining.{FromPassed, from-passed}
 use Rattle.joining.proofs.Rounding.{place-rule}
 use Rattle.joining.proofs.Chaining.{call-passed, chain-rule}
+use Rattle.joining.proofs.Answered.{any-length}
 
 module _ (s : List ℕ) (destination : StrPtr) (list : List StrPtr) (count : ℕ) (L : length list ≡ 32) (e : joinFromRefusal s destination list count firstPlace ≡ 0) where
   abbrev ps : List StrPtr
@@ -74,7 +76,7 @@ module _ (s : List ℕ) (destination : StrPtr) (list : List StrPtr) (count : ℕ
 
   stored : (t : List ℕ) (n : ℕ) → texts t ps ≡ xss → joinFromRefusal t destination list count (placeAfter xss m n) ≡ 0
       → joinFromRule t destination list count (placeAfter xss m n) .1 ≡ put t (destination .start) (piece xss m (at n))
-  unfolding joinFromRule resumed ruled after
+  unfolding joinFromRule roundFrom ruled after
   stored t n x z = rw (z, x)
 
   -- the store after n calls
@@ -97,7 +99,7 @@ module _ (s : List ℕ) (destination : StrPtr) (list : List StrPtr) (count : ℕ
   place-same (suc n) = refl
 
   called : (n : ℕ) → joinFromRule (storeAfter s destination list count n) destination list count (placeAfter xss m n) .0 ≡ gives (roundAfter xss destination n)
-  unfolding joinFromRule resumed ruled outcome
+  unfolding joinFromRule roundFrom ruled outcome
   called n =
       let k = kept n in
       rw (allowed (storeAfter s destination list count n) (placeAfter xss m n) (k .0) (k .1) (place-after-in n), k .1)
@@ -106,8 +108,18 @@ module _ (s : List ℕ) (destination : StrPtr) (list : List StrPtr) (count : ℕ
   unfolding storeAfter
   run-chain = record { room = λ n u. refl; same = λ n u. kept n .1; call = λ n u. rw (place-same n) (called n) }
 
+  -- whatever length the pointer has
+  again : (n k : ℕ) → k ≤ m
+      → joinFromRule (storeAfter s destination list count n) (sized destination k) list count (placeAfter xss m n)
+      ≡ (gives (roundAfter xss destination n), storeAfter s destination list count (suc n))
+  unfolding storeAfter
+  again n k h =
+      let t : List ℕ = storeAfter s destination list count n in
+      any-length t destination list count (placeAfter xss m n) k (omega (arith, good-is (length s) destination (ok .join .listed .room))) h
+      ∙ ap (λ (a : Outcome Round). (a, joinFromRule t destination list count (placeAfter xss m n) .1)) (called n)
+
   run : 1 ≤ m → AgainRule s destination list count
-  run h = record { given = called; rule = chain-rule (storeAfter s destination list count) (λ _. destination) list count m (roundAfter xss destination) h run-chain }
+  run h = record { given = again; rule = chain-rule (storeAfter s destination list count) (λ _. destination) list count m (roundAfter xss destination) h run-chain }
 
 pub run-rule : AgainRules
 run-rule s destination list count r L h e = run s destination list count L (call-passed s destination list count firstPlace r e) h

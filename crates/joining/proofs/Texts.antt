@@ -7,13 +7,12 @@ use native.Mathlib.Nat.{add-assoc}
 use native.Mathlib.Omega.{arith}
 use lib.ListN.{length, take, drop, getD}
 use lib.Seq.{drop-nil, take-nil, take-all, drop-append-add}
-use Rattle.strlib.specs.Pointer.{goodIn, clear, all, texts}
+use Rattle.strlib.specs.Pointer.{goodIn, clear, all, texts, joined}
 use Rattle.strlib.specs.Store.{put}
 use Rattle.strlib.specs.declared.StrPtr.{StrPtr}
 use Rattle.strlib.proofs.Pointing.{text-length}
 use Rattle.strlib.proofs.Refusing.{and-both}
 use Rattle.moving.proofs.Keeping.{text-kept}
-use Rattle.joining.specs.Joining.{joined}
 use Rattle.joining.specs.Resuming.{lengthAt, before}
 
 -- ---- string by string

@@ -5,15 +5,15 @@ use mathlib.Core.Path.{_≡_, refl}
 use mathlib.Core.Bool.{Bool, true, false}
 use mathlib.Core.List.{List, [], _∷_, _++_}
 use lib.ListN.{replicate}
-use Rattle.strlib.specs.Pointer.{pointer, sized, storeFits, goodIn, textOf, texts, characters, readable, apart, clear, all}
+use Rattle.strlib.specs.Pointer.{pointer, sized, storeFits, goodIn, textOf, texts, characters, readable, apart, clear, all, joined}
 use Rattle.strlib.specs.Quoted.{bytes}
 use Rattle.strlib.specs.Refusal.{Outcome, refused, gives, outcome, after, ruled}
 use Rattle.strlib.specs.Store.{put}
 use Rattle.strlib.specs.declared.StrPtr.{StrPtr}
 use Rattle.copying.specs.Copying.{gap, laid, wrote, boundedCopy}
 use Rattle.copying.specs.Examples.{to, varying, letters}
-use Rattle.joining.specs.Joining.{joined, joinRefusal, joinRule}
-use Rattle.joining.specs.Resuming.{lengthAt, placeIn, before, placeAt, piece, completes, nextPlace, roundOf, resumed, joinFromRefusal, joinFromRule}
+use Rattle.joining.specs.Joining.{joinRefusal, joinRule}
+use Rattle.joining.specs.Resuming.{lengthAt, placeIn, before, placeAt, piece, completes, nextPlace, roundOf, roundFrom, joinFromRefusal, joinFromRule}
 use Rattle.joining.specs.declared.Place.{Place}
 use Rattle.joining.specs.declared.Round.{Round}
 
@@ -52,7 +52,7 @@ pub record Examples : Type 0 where
   -- 5.2, cmbstr: padded to the old length 40
   pub half : joinRule (halves (replicate 40 46)) (pointer 21 40 40) (pointer 0 10 10 ∷ pointer 10 11 11 ∷ []) 2 true
       ≡ (to (pointer 21 40 40) true, halves (bytes "first halfsecond half                   "))
-  -- 5.2, chkstr: three rounds of seven characters
+  -- 5.2, chkstr: three rounds of at most seven characters
   pub one : joinFromRule (four (bytes "........")) (pointer 20 0 7) strings 4 (place 1 1) ≡ (round (pointer 20 7 7) false (place 2 3), four (bytes "1122 33."))
   pub two : joinFromRule (four (bytes "1122 33.")) (pointer 20 7 7) strings 4 (place 2 3) ≡ (round (pointer 20 7 7) false (place 3 5), four (bytes "44 5566."))
   pub last : joinFromRule (four (bytes "44 5566.")) (pointer 20 7 7) strings 4 (place 3 5) ≡ (round (pointer 20 6 7) true (place 5 1), four (bytes " 7788 6."))
@@ -68,7 +68,7 @@ pub record Examples : Type 0 where
 
 -- it holds, by computing both sides
 pub examples : Examples
-unfolding pointer sized storeFits goodIn textOf characters readable apart clear all outcome after ruled put texts joined gap laid wrote boundedCopy joinRefusal joinRule lengthAt placeIn before placeAt piece completes nextPlace roundOf resumed joinFromRefusal joinFromRule
+unfolding pointer sized storeFits goodIn textOf characters readable apart clear all outcome after ruled put texts joined gap laid wrote boundedCopy joinRefusal joinRule lengthAt placeIn before placeAt piece completes nextPlace roundOf roundFrom joinFromRefusal joinFromRule
 examples =
     record {
       joins = refl;

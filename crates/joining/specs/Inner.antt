@@ -23,11 +23,11 @@ movedNext s destination n source q =
     let m : ℕ = min (source .length - q) (destination .maximum - n) in (m, moved s (source .start + q) (destination .start + n) m)
 
 -- a list whose strings lie outside the destination's room, and a place in it, as indices
-pub record Resumable (s : List ℕ) (destination : StrPtr) (list : List StrPtr) (count first skip : ℕ) : Type 0 where
+pub record Resumable (s : List ℕ) (destination : StrPtr) (list : List StrPtr) (count index skip : ℕ) : Type 0 where
   pub small : length s ≤ 65536
   pub few : count ≤ 32
   pub room : goodIn (length s) destination ≡ true
   pub parts : all (goodIn (length s)) (take count list) ≡ true
   pub apart : all (clear destination) (take count list) ≡ true
-  pub start : first ≤ count
-  pub within : skip ≤ lengthAt (take count list) first
+  pub start : index ≤ count
+  pub within : skip ≤ lengthAt (take count list) index

@@ -1,19 +1,15 @@
 -- Join of a list: 01, "Copying", first paragraph. Assumes nothing.
 use Prim.Native.Nat.{ℕ}
-use mathlib.Core.Bool.{Bool}
+use mathlib.Core.Path.{_≡_}
+use mathlib.Core.Bool.{Bool, true}
 use mathlib.Core.List.{List, [], _∷_, _++_}
 use lib.Dec.{leb}
 use lib.ListN.{length, take}
-use Rattle.strlib.specs.Pointer.{storeFits, goodIn, texts, readable, clear, all}
-use Rattle.strlib.specs.Refusal.{Outcome, first}
+use Rattle.strlib.specs.Pointer.{storeFits, goodIn, texts, joined, readable, clear, all}
+use Rattle.strlib.specs.Refusal.{Outcome, gives, first}
 use Rattle.strlib.specs.declared.StrPtr.{StrPtr}
 use Rattle.copying.specs.Copying.{boundedCopy}
 use Rattle.copying.specs.declared.Wrote.{Wrote}
-
--- texts one behind the other
-unfoldable pub joined : List (List ℕ) → List ℕ
-joined [] = []
-joined (x ∷ xss) = x ++ joined xss
 
 -- the checks that a join and a checkpointed join begin with
 abbrev pub listedChecks : List ℕ → StrPtr → List StrPtr → ℕ → List (ℕ × Bool)
@@ -37,3 +33,10 @@ joinRefusal s destination list count = first (joinChecks s destination list coun
 unfoldable pub joinRule : List ℕ → StrPtr → List StrPtr → ℕ → Bool → Outcome Wrote × List ℕ
 joinRule s destination list count pad =
     boundedCopy (joinRefusal s destination list count) s destination (joined (texts s (take count list))) pad
+
+-- a pointer that a join gives is good for the store
+abbrev pub JoinGood : Type 0
+JoinGood =
+    (s : List ℕ) (destination : StrPtr) (list : List StrPtr) (count : ℕ) (pad : Bool) (r : Wrote)
+    → joinRule s destination list count pad .0 ≡ gives r
+    → goodIn (length s) (r .to) ≡ true

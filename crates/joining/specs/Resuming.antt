@@ -1,14 +1,15 @@
 -- The checkpointed join: 01, "Copying", second paragraph. Assumes nothing.
 use Prim.Native.Nat.{ℕ, zero, suc, _+_, _-_}
-use mathlib.Core.Bool.{Bool, cond, _&&_}
+use mathlib.Core.Path.{_≡_}
+use mathlib.Core.Bool.{Bool, true, cond, _&&_}
 use mathlib.Core.List.{List, [], _∷_, _++_}
 use lib.Dec.{leb, ltb}
 use lib.ListN.{length, take, drop}
-use Rattle.strlib.specs.Pointer.{sized, clear, all, texts}
+use Rattle.strlib.specs.Pointer.{sized, goodIn, clear, all, texts, joined}
 use Rattle.strlib.specs.Refusal.{Outcome, refused, gives, first, ruled}
 use Rattle.strlib.specs.Store.{put}
 use Rattle.strlib.specs.declared.StrPtr.{StrPtr}
-use Rattle.joining.specs.Joining.{joined, listedChecks}
+use Rattle.joining.specs.Joining.{listedChecks}
 use Rattle.joining.specs.declared.Place.{Place}
 use Rattle.joining.specs.declared.Round.{Round}
 use Rattle.joining.specs.declared.RoundAnswer.{RoundAnswer}
@@ -64,8 +65,8 @@ roundOf xss destination o =
 
 -- the answer and the store of a round over the strings ps, from behind the first q characters of the string of index i
 -- on
-unfoldable pub resumed : List ℕ → StrPtr → List StrPtr → ℕ → ℕ → Round × List ℕ
-resumed s destination ps i q =
+unfoldable pub roundFrom : List ℕ → StrPtr → List StrPtr → ℕ → ℕ → Round × List ℕ
+roundFrom s destination ps i q =
     let xss : List (List ℕ) = texts s ps in
     let o : ℕ = before xss i q in
     (roundOf xss destination o, put s (destination .start) (piece xss (destination .maximum) o))
@@ -84,10 +85,17 @@ joinFromRefusal s destination list count from = first (joinFromChecks s destinat
 -- a checkpointed join is one round from the given place on
 unfoldable pub joinFromRule : List ℕ → StrPtr → List StrPtr → ℕ → Place → Outcome Round × List ℕ
 joinFromRule s destination list count from =
-    let round : Round × List ℕ = resumed s destination (take count list) (from .string - 1) (from .character - 1) in
+    let round : Round × List ℕ = roundFrom s destination (take count list) (from .string - 1) (from .character - 1) in
     ruled (joinFromRefusal s destination list count from) (round .0) (round .1) s
 
 -- the paper's value for each case of the answer
 abbrev pub roundAnswered : RoundAnswer → Outcome Round
 roundAnswered (Given r) = gives r
 roundAnswered (Refused n) = refused n
+
+-- a pointer that a checkpointed join gives is good for the store
+abbrev pub JoinFromGood : Type 0
+JoinFromGood =
+    (s : List ℕ) (destination : StrPtr) (list : List StrPtr) (count : ℕ) (from : Place) (r : Round)
+    → joinFromRule s destination list count from .0 ≡ gives r
+    → goodIn (length s) (r .to) ≡ true

@@ -1,14 +1,16 @@
--- The place rule and the round rule of the checkpointed join: 01, "Copying", second paragraph. Each claim is one type:
--- `PlaceRules`, `NothingMoves`, `RoundRules`, `ChainRules`, `AnyLength`, `AgainRules`. Assumes nothing.
+-- The place rule and the round rule of the checkpointed join: 01, "Copying", second paragraph. Each claim is one type.
+-- 01's sentence on the next place is `PlaceRules`, that on m = 0 `NothingMoves`, that on rounds `ChainRules`: any calls
+-- from (1, 1) on of which none is refused, however stores and destinations change in between, as long as the sources
+-- and m stay. `AgainRules` is the case of one destination, called again on the store that the call before left: there
+-- it is enough that the first call is not refused. `RoundRules` is the same rule on the definitions. Assumes nothing.
 use Prim.Native.Nat.{ℕ, zero, suc, _+_, _-_, _/_, _≤_, _<_, max}
 use mathlib.Core.Path.{_≡_}
 use mathlib.Core.Bool.{true, false}
 use mathlib.Core.List.{List, [], _++_}
-use lib.ListN.{length, take, getD}
-use Rattle.strlib.specs.Pointer.{sized, textOf, texts}
+use lib.ListN.{length, take}
+use Rattle.strlib.specs.Pointer.{sized, textOf, texts, joined}
 use Rattle.strlib.specs.Refusal.{gives}
 use Rattle.strlib.specs.declared.StrPtr.{StrPtr}
-use Rattle.joining.specs.Joining.{joined}
 use Rattle.joining.specs.Resuming.{lengthAt, offset, piece, completes, nextPlace, roundOf, joinFromRule}
 use Rattle.joining.specs.declared.Place.{Place}
 use Rattle.joining.specs.declared.Round.{Round}
@@ -37,7 +39,7 @@ PlaceRules =
     → PlaceRule list count r
 
 -- with the maximum 0 and something left nothing moves: the round is not completed, the store stays, the destination is
--- empty, and the next place is that of the same character
+-- empty, and as many characters stand before the next place as before the given one
 pub record Unmoved (s : List ℕ) (destination : StrPtr) (list : List StrPtr) (count : ℕ) (from : Place) (r : Round) : Type 0 where
   pub uncompleted : r .completed ≡ false
   pub stays : joinFromRule s destination list count from .1 ≡ s
@@ -51,13 +53,6 @@ NothingMoves =
     → offset (texts s (take count list)) from < length (joined (texts s (take count list)))
     → joinFromRule s destination list count from .0 ≡ gives r
     → Unmoved s destination list count from r
-
--- the place rule on the definitions
-pub record PlaceLaw (xss : List (List ℕ)) (m o : ℕ) : Type 0 where
-  pub behind : completes xss m o ≡ true → nextPlace xss m o ≡ record { string = length xss + 1; character = 1 }
-  pub inside : completes xss m o ≡ false
-      → ((1 ≤ nextPlace xss m o .string) × (nextPlace xss m o .string ≤ length xss))
-      × ((1 ≤ nextPlace xss m o .character) × (nextPlace xss m o .character ≤ length (getD xss (nextPlace xss m o .string - 1) [])))
 
 -- ---- the round rule, on the definitions
 
@@ -126,8 +121,7 @@ ChainRules =
 
 -- ---- one destination, called again
 
--- the length that a destination has counts for nothing, as long as it keeps to its maximum: a call may be given the
--- pointer that the call before gave
+-- the length that a destination has counts for nothing, as long as it keeps to its maximum
 abbrev pub AnyLength : Type 0
 AnyLength =
     (s : List ℕ) (destination : StrPtr) (list : List StrPtr) (count : ℕ) (from : Place) (n : ℕ)
@@ -145,11 +139,12 @@ storeAfter s destination list count zero = s
 storeAfter s destination list count (suc n) =
     joinFromRule (storeAfter s destination list count n) destination list count (placeAfter (texts s (take count list)) (destination .maximum) n) .1
 
--- no later call is refused, and the round rule holds of the calls
+-- no later call is refused, whichever length its pointer has, as that which the call before gave; and the round rule
+-- holds of the calls
 pub record AgainRule (s : List ℕ) (destination : StrPtr) (list : List StrPtr) (count : ℕ) : Type 0 where
-  pub given : (n : ℕ)
-      → joinFromRule (storeAfter s destination list count n) destination list count (placeAfter (texts s (take count list)) (destination .maximum) n) .0
-      ≡ gives (roundAfter (texts s (take count list)) destination n)
+  pub given : (n k : ℕ) → k ≤ destination .maximum
+      → joinFromRule (storeAfter s destination list count n) (sized destination k) list count (placeAfter (texts s (take count list)) (destination .maximum) n)
+      ≡ (gives (roundAfter (texts s (take count list)) destination n), storeAfter s destination list count (suc n))
   pub rule : ChainRule (storeAfter s destination list count) (λ _. destination) list count (destination .maximum) (roundAfter (texts s (take count list)) destination)
 
 -- any store and list, which has 32 places; a destination of maximum 1 or more; a first call that is not refused

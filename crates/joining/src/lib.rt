@@ -10,7 +10,7 @@ ghost use Prim.Native.Nat.{_+_, _≤_};
 ghost use lib.ListN.{length, take};
 ghost use Rattle.strlib.specs.Pointer.{sized};
 ghost use Rattle.joining.specs.Joining.{listedRefusal};
-ghost use Rattle.joining.specs.Resuming.{resumed};
+ghost use Rattle.joining.specs.Resuming.{roundFrom};
 ghost use Rattle.joining.specs.Inner.{Next, movedNext, Resumable};
 pub use joins::join;
 pub use rounds::join_from;
@@ -76,21 +76,21 @@ fn move_next(store: &mut [u8], destination: StrPtr, n: usize, source: StrPtr, q:
 }
 
 // Fills the destination with the characters of the listed strings, cut at its maximum, from behind the first `skip`
-// characters of the string at index `first` on. One pass: each turn moves what is left of one string, or what still
+// characters of the string at `index` on. One pass: each turn moves what is left of one string, or what still
 // fits.
 fn fill(
     store: &mut [u8],
     destination: StrPtr,
     list: StrList,
     count: usize,
-    first: usize,
+    index: usize,
     skip: usize,
 ) -> Round
-    requires { ⌜ Resumable (now store) destination list count first skip ⌝ }
-    ensures { λ r. ⌜ (r, now (store .exit)) ≡ resumed (now (store .entry)) destination (take count list) first skip ⌝ }
+    requires { ⌜ Resumable (now store) destination list count index skip ⌝ }
+    ensures { λ r. ⌜ (r, now (store .exit)) ≡ roundFrom (now (store .entry)) destination (take count list) index skip ⌝ }
 {
     let mut n = 0;
-    let mut i = first;
+    let mut i = index;
     let mut q = skip;
     while i < count {
         let source = list[i];

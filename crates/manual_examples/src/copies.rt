@@ -57,7 +57,7 @@ pub(crate) fn section_3_0() {
 // copstr, appstr and catstr.
 fn copied(store: &mut [u8], istring: StrPtr, l1: StrPtr) {
     copy(b"3.2  copstr", store, istring, StrPtr::full(0, 5));
-    let mut list = [istring; 32];
+    let mut list = [istring; StrPtr::LIST_MAX];
     list[0] = append(
         b"3.2  appstr (manual: without d1's last blank)",
         store,
@@ -117,7 +117,7 @@ fn say_call(number: usize) {
 // chkstr's four strings of five characters, at the front of the store, into the seven bytes behind them.
 fn round(number: usize, store: &mut [u8], from: Place) -> Place {
     say_call(number);
-    let mut list = [StrPtr::full(0, 5); 32];
+    let mut list = [StrPtr::full(0, 5); StrPtr::LIST_MAX];
     list[1] = StrPtr::full(5, 5);
     list[2] = StrPtr::full(10, 5);
     list[3] = StrPtr::full(15, 5);
@@ -136,7 +136,7 @@ fn rounds(store: &mut [u8], first: Place) {
 fn combined(store: &mut [u8], l1: StrPtr) {
     let l1 = append(b"5.2  append more1", store, l1, StrPtr::full(40, 5));
     let l1 = append(b"5.2  append more2", store, l1, StrPtr::full(45, 5));
-    let mut list = [StrPtr::full(50, 10); 32];
+    let mut list = [StrPtr::full(50, 10); StrPtr::LIST_MAX];
     list[1] = StrPtr::full(60, 15);
     join(b"5.2  pad", store, l1.sized(40), list, 2, true);
 }

@@ -1,4 +1,5 @@
-// 5.5, conversions of numbers. cnvstr fills a converted number with blanks or zeros to the old length; here a number has the fewest digits.
+// 5.5, conversions of numbers. cnvstr fills a converted number with blanks or zeros to the old length; here a number
+// has the fewest digits.
 use number::NumberAnswer;
 use saying::end_line;
 use saying::given;

@@ -15,7 +15,7 @@ use strlib::StrPtr;
 
 // A list of three; those past the count are ignored.
 fn list_of(a: StrPtr, b: StrPtr, c: StrPtr) -> StrList {
-    let mut list = [c; 32];
+    let mut list = [c; StrPtr::LIST_MAX];
     list[0] = a;
     list[1] = b;
     list
@@ -101,13 +101,14 @@ fn digits(store: &[u8]) {
     part_four(store, StrPtr::full(0, 10), null);
 }
 
-// The host, then the literals '34567', '56789', '01234', 'abcde' and '012', then '34' (l2), and '23456' with '23' (l3) at its front.
+// The host, then the literals '34567', '56789', '01234', 'abcde' and '012', then '34' (l2), and '23456' with '23' (l3)
+// at its front.
 pub(crate) fn section_3_4() {
     digits(b"0123456789345675678901234abcde012  3423456");
 }
 
-// fndstr for one or two strings: the position, the number of the string (which) and the length of the match, which is given. The hosts of 5.3
-// start at 1 in their stores, so that the start of a part is its position in the host.
+// fndstr for one or two strings: the position, the number of the string (which) and the length of the match, which is
+// given. The hosts of 5.3 start at 1 in their stores, so that the start of a part is its position in the host.
 fn find(name: &[u8], store: &[u8], host: StrPtr, a: StrPtr, b: StrPtr, count: usize) -> StrPtr {
     say(name);
     match search::search(store, host, list_of(a, b, b), count) {

@@ -1,5 +1,5 @@
-// 5.4, character-searching. The strings put into tables are taken without a literal's padding: it would put blank into table 1 and take it
-// out of table 4, in which befchr is to find it.
+// 5.4, character-searching. The strings put into tables are taken without a literal's padding: it would put blank into
+// table 1 and take it out of table 4, in which befchr is to find it.
 use super::cuts::between;
 use super::cuts::relative;
 use charset::CharAnswer;
@@ -43,13 +43,13 @@ fn fill_but(store: &[u8], string: StrPtr, block: &mut [u64], mask: u64) {
 }
 
 // The vowels in table 1 and all but blank in table 2.
-fn two_tables(store: &[u8], block: &mut [u64; 128]) {
+fn two_tables(store: &[u8], block: &mut [u64; StrPtr::BLOCK_WORDS]) {
     charset::add_characters(store, StrPtr::full(0, 5), block, 1);
     fill_but(store, StrPtr::full(5, 1), block, 2);
 }
 
 // Digits and signs in table 1, tab out of table 2, all but digits and signs in table 4.
-fn three_tables(store: &[u8], block: &mut [u64; 128]) {
+fn three_tables(store: &[u8], block: &mut [u64; StrPtr::BLOCK_WORDS]) {
     charset::clear_tables(block, 1);
     charset::add_characters(store, StrPtr::full(9, 10), block, 1);
     charset::add_characters(store, StrPtr::full(19, 3), block, 1);
@@ -58,7 +58,7 @@ fn three_tables(store: &[u8], block: &mut [u64; 128]) {
 }
 
 // The tables that each character is in: the sum of their masks.
-fn say_tables(block: &[u64; 128]) {
+fn say_tables(block: &[u64; StrPtr::BLOCK_WORDS]) {
     say(b"5.4  tables of a, 1, plus, point, blank, tab:");
     say_number(block[97] as usize);
     say_number(block[49] as usize);
@@ -75,7 +75,8 @@ fn before_other(name: &[u8], store: &[u8], sp1: StrPtr, block: &[u64]) {
     show(name, store, between(store, sp1, 1, c.position));
 }
 
-// sp1 is what stands after the first character that is no blank and no tab, or, as the manual's text has it, from that character on.
+// sp1 is what stands after the first character that is no blank and no tab, or, as the manual's text has it, from that
+// character on.
 fn stripped(store: &[u8], numlst: StrPtr, block: &[u64]) {
     let c = first(store, numlst, block, 2);
     let after = relative(store, numlst, c.position);
@@ -89,8 +90,8 @@ fn stripped(store: &[u8], numlst: StrPtr, block: &[u64]) {
     before_other(b"5.4  sp2 with the match", store, from, block);
 }
 
-// The innermost parentheses: from the last left one to the first right one after it. The host starts at 1 in the store, so that the start of
-// what stands after the right one is innrp.
+// The innermost parentheses: from the last left one to the first right one after it. The host starts at 1 in the store,
+// so that the start of what stands after the right one is innrp.
 fn innermost(store: &[u8], expres: StrPtr, block: &[u64]) {
     let left = last(store, expres, block, 8);
     show_character(b"5.4  innlp", left);
@@ -122,20 +123,20 @@ fn first_left(store: &[u8], expres: StrPtr, block: &[u64]) {
     show_character(b"5.4  anchor (manual: 0)", first(store, part, block, 8));
 }
 
-fn parentheses(store: &[u8], expres: StrPtr, block: &mut [u64; 128]) {
+fn parentheses(store: &[u8], expres: StrPtr, block: &mut [u64; StrPtr::BLOCK_WORDS]) {
     charset::add_characters(store, StrPtr::full(11, 1), block, 8);
     charset::add_characters(store, StrPtr::full(12, 1), block, 16);
     innermost(store, expres, block);
     first_left(store, expres, block);
 }
 
-fn searches(block: &mut [u64; 128]) {
+fn searches(block: &mut [u64; StrPtr::BLOCK_WORDS]) {
     stripped(b" +73 24   ", StrPtr::full(0, 10), block);
     parentheses(b" (i+(j+k)-)()", StrPtr::full(1, 10), block);
 }
 
 fn tables(store: &[u8]) {
-    let mut block = [0u64; 128];
+    let mut block = [0u64; StrPtr::BLOCK_WORDS];
     two_tables(store, &mut block);
     say_tables(&block);
     three_tables(store, &mut block);

@@ -1,4 +1,5 @@
--- What moving, blanks, bytes and reversal leave in a store: 01, "Copying". Outside the store nothing is written. Assumes nothing.
+-- What moving, blanks, bytes and reversal leave in a store: 01, "Copying". Outside the store nothing is written.
+-- Assumes nothing.
 use Prim.Native.Nat.{ℕ, _+_}
 use mathlib.Core.Bool.{cond, _&&_}
 use mathlib.Core.List.{List, [], _∷_, _++_}

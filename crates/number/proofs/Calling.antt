@@ -1,5 +1,5 @@
--- Laws of the two calls: the checks made first find what the rule's first checks find, and the answers follow from those behind them.
--- Assumes nothing.
+-- Laws of the two calls: the checks made first find what the rule's first checks find, and the answers follow from
+-- those behind them. Assumes nothing.
 use mathlib.Core.Path.{_≡_, refl, sym, ap, _∙_}
 use mathlib.Core.Bool.{Bool, true, cond}
 use mathlib.Core.List.{List, [], _++_}

@@ -1,4 +1,5 @@
--- Laws of the digits of a number, and of counting them: the quotient has one digit less, so that 36 are enough. Assumes nothing.
+-- Laws of the digits of a number, and of counting them: the quotient has one digit less, so that 36 are enough. Assumes
+-- nothing.
 use mathlib.Core.Path.{_≡_, sym, ap, _∙_}
 use mathlib.Core.Bool.{Bool, true, false, cond}
 use mathlib.Core.List.{List, [], _∷_, _++_}

@@ -1,4 +1,5 @@
--- The digits written are the fewest: n digits make numbers under base^n only, and each number under base^n has at most n digits. Assumes nothing.
+-- The digits written are the fewest: n digits make numbers under base^n only, and each number under base^n has at most
+-- n digits. Assumes nothing.
 use mathlib.Core.Path.{_≡_, refl, sym, _∙_}
 use mathlib.Core.Bool.{Bool, true, false, cond, false≢true}
 use mathlib.Core.List.{List, [], _∷_, _++_}

@@ -1,21 +1,15 @@
--- A pointer that a writing returns is good for the same store: it has the destination's room, and a length within it. Assumes nothing.
-use mathlib.Core.Path.{_≡_}
-use mathlib.Core.Bool.{true}
-use mathlib.Core.List.{List}
-use Prim.Native.Nat.{ℕ}
-use lib.IntN.{ℤ}
+-- A pointer that a writing returns is good for the same store: it has the destination's room, and a length within it.
+-- Assumes nothing.
 use lib.ListN.{length}
 use Rattle.strlib.proofs.Refusing.{ruled-gave}
 use Rattle.strlib.proofs.Pointing.{good-sized}
-use Rattle.strlib.specs.Pointer.{sized, goodIn}
-use Rattle.strlib.specs.Refusal.{gives}
+use Rattle.strlib.specs.Pointer.{sized}
 use Rattle.strlib.specs.Store.{put}
-use Rattle.strlib.specs.declared.StrPtr.{StrPtr}
 use Rattle.number.specs.Written.{written}
-use Rattle.number.specs.Number.{writeRefusal, writeRule}
+use Rattle.number.specs.Number.{writeRefusal, writeRule, WriteGood}
 use Rattle.number.proofs.Calling.{WritePassed, write-passed}
 
-pub write-good : (s : List ℕ) (p : StrPtr) (z : ℤ) (base : ℕ) (q : StrPtr) → writeRule s p z base .0 ≡ gives q → goodIn (length s) q ≡ true
+pub write-good : WriteGood
 unfolding writeRule
 write-good s p z base q e =
     let g = ruled-gave (writeRefusal s p z base) (sized p (length (written base z))) q (put s (p .start) (written base z)) s e in

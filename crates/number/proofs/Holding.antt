@@ -1,5 +1,5 @@
--- A value that is held at 2^36 once it is more reads as the exact value does: what digits follow only makes it larger, and over the range
--- the number itself no longer counts. Assumes nothing.
+-- A value that is held at 2^36 once it is more reads as the exact value does: what digits follow only makes it larger,
+-- and over the range the number itself no longer counts. Assumes nothing.
 use mathlib.Core.Path.{_≡_, refl, sym, ap, _∙_}
 use mathlib.Core.Bool.{Bool, true, false}
 use mathlib.Core.List.{List, [], _∷_}

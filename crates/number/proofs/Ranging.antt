@@ -1,4 +1,5 @@
--- Laws of the base and the range, and of a number made from its sign and magnitude: in the range nothing overflows. Assumes nothing.
+-- Laws of the base and the range, and of a number made from its sign and magnitude: in the range nothing overflows.
+-- Assumes nothing.
 use mathlib.Core.Path.{_≡_, refl, _∙_}
 use mathlib.Core.Bool.{Bool, true, false, and-true, true≢false}
 use Prim.Native.Nat.{ℕ, zero, suc, _≤_, _<_}
@@ -10,7 +11,7 @@ use mir.Syntax.{w64}
 use mir.Val.{Fits, SFits, toZ, ofZ}
 use mir.Facts.{toZ-ofZ, toZ-pos}
 use borrow.Author.Needs.{needs}
-use borrow.Author.Tests.{leb-true, lt-leb, ltb-true}
+use borrow.Author.Tests.{leb-true, le-leb, lt-leb, ltb-true}
 use Rattle.strlib.proofs.Refusing.{and-both}
 use Rattle.number.specs.Limits.{isBase, inRange}
 use Rattle.number.specs.Text.{signed}
@@ -18,6 +19,12 @@ use Rattle.number.specs.Text.{signed}
 pub base-is : (base : ℕ) → isBase base ≡ true → (2 ≤ base) × (base ≤ 10)
 unfolding isBase
 base-is base e = let b = and-both (leb 2 base) (leb base 10) e in (leb-true 2 base (b .0), leb-true base 10 (b .1))
+
+-- a small number is in the range, whatever its sign
+pub in-range : (z : ℤ) → natAbs z < 34359738368 → inRange z ≡ true
+unfolding inRange
+in-range (pos n) h = le-leb n 34359738367 (omega arith)
+in-range (negsuc n) h = rw (le-leb n 34359738367 (omega arith))
 
 -- `mag z` is n for n and for −(n + 1)
 pub range-mag : (z : ℤ) → inRange z ≡ true → mag z < 34359738368

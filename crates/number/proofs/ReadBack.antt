@@ -1,4 +1,5 @@
--- The digits of a number read back as the number: by induction on how many there are, the last one being the remainder. Assumes nothing.
+-- The digits of a number read back as the number: by induction on how many there are, the last one being the remainder.
+-- Assumes nothing.
 use mathlib.Core.Path.{_≡_, refl, _∙_}
 use mathlib.Core.Bool.{true, false, and-true}
 use mathlib.Core.List.{List, [], _∷_, _++_}

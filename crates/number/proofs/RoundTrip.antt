@@ -1,5 +1,5 @@
--- The round trip: the text written is put at the destination's start, so that the returned pointer names it, and it reads as the number.
--- Assumes nothing.
+-- The round trip: the text written is put at the destination's start, so that the returned pointer names it, and it
+-- reads as the number. Assumes nothing.
 use mathlib.Core.Path.{_≡_}
 use mathlib.Core.Bool.{true}
 use mathlib.Core.List.{List}

@@ -13,8 +13,8 @@ use Rattle.number.specs.Written.{digitsIn, digits, sign, written}
 use Rattle.number.specs.Number.{readRefusal, readRule, writeRefusal, writeRule}
 
 -- a store that holds just the text
-abbrev pub read : ℕ → List ℕ → Outcome ℤ
-read base cs = readRule cs (pointer 0 (length cs) (length cs)) base
+abbrev pub readText : ℕ → List ℕ → Outcome ℤ
+readText base cs = readRule cs (pointer 0 (length cs) (length cs)) base
 
 -- 3435973836, the digits that both ends of the range begin with
 abbrev pub front : List ℕ
@@ -26,16 +26,16 @@ store = 120 ∷ 49 ∷ 50 ∷ 51 ∷ 52 ∷ 53 ∷ 200 ∷ []
 
 pub record Examples : Type 0 where
   -- both ends of the range, and one past the lower
-  pub highest : read 10 (front ++ (55 ∷ [])) ≡ gives (pos 34359738367)
-  pub lowest : read 10 (45 ∷ front ++ (56 ∷ [])) ≡ gives (negsuc 34359738367)
-  pub under : read 10 (45 ∷ front ++ (57 ∷ [])) ≡ refused 8
+  pub highest : readText 10 (front ++ (55 ∷ [])) ≡ gives (pos 34359738367)
+  pub lowest : readText 10 (45 ∷ front ++ (56 ∷ [])) ≡ gives (negsuc 34359738367)
+  pub under : readText 10 (45 ∷ front ++ (57 ∷ [])) ≡ refused 8
   -- a blank behind the minus, a plus
-  pub minus-blank : read 10 (45 ∷ 32 ∷ 49 ∷ []) ≡ refused 7
-  pub plus : read 10 (43 ∷ 49 ∷ []) ≡ refused 7
+  pub minus-blank : readText 10 (45 ∷ 32 ∷ 49 ∷ []) ≡ refused 7
+  pub plus : readText 10 (43 ∷ 49 ∷ []) ≡ refused 7
   -- a foreign last character is 7, also behind digits that are out of range
-  pub foreign : read 10 (front ++ (57 ∷ 57 ∷ 57 ∷ 120 ∷ [])) ≡ refused 7
+  pub foreign : readText 10 (front ++ (57 ∷ 57 ∷ 57 ∷ 120 ∷ [])) ≡ refused 7
   -- the digit of the base is none
-  pub two-in-two : read 2 (49 ∷ 50 ∷ []) ≡ refused 7
+  pub two-in-two : readText 2 (49 ∷ 50 ∷ []) ≡ refused 7
   -- 31 into the room: every byte past the length stays
   pub write : writeRule store (pointer 1 0 5) (pos 31) 10 ≡ (gives (pointer 1 2 5), 120 ∷ 51 ∷ 49 ∷ 51 ∷ 52 ∷ 53 ∷ 200 ∷ [])
   -- the destination is not read: neither its old length nor a byte over 127 in it counts

@@ -2,14 +2,14 @@
 use Prim.Native.Nat.{ℕ, _+_, _≤_, _<_}
 use mathlib.Core.Path.{_≡_}
 use mathlib.Core.Bool.{Bool, true}
-use mathlib.Core.List.{List, [], _∷_}
+use mathlib.Core.List.{List}
 use lib.IntN.{ℤ}
 use lib.ListN.{length}
 use Rattle.strlib.specs.Refusal.{Outcome, first, outcome}
 use Rattle.strlib.specs.declared.StrPtr.{StrPtr}
 use Rattle.number.specs.Limits.{isBase, inRange}
 use Rattle.number.specs.Written.{digits, written}
-use Rattle.number.specs.Number.{beforeText, beforeDigits}
+use Rattle.number.specs.Number.{beforeText, ofValue, beforeDigits}
 
 -- the refusal that the checks before a text find, 0 for none
 unfoldable pub unreadable : List ℕ → StrPtr → ℕ → ℕ
@@ -17,7 +17,7 @@ unreadable s p base = first (beforeText s p base)
 
 -- what a text reads as: refusal 7 where it is no number, else 8 where its number is out of range
 unfoldable pub reads : Bool → ℤ → Outcome ℤ
-reads formed z = outcome (first ((7, formed) ∷ (8, inRange z) ∷ [])) z
+reads formed z = outcome (first (ofValue formed z)) z
 
 -- the refusal that the checks before the digits find, 0 for none
 unfoldable pub unwritable : List ℕ → StrPtr → ℤ → ℕ → ℕ

@@ -1,6 +1,7 @@
 -- The two calls: 01, "Numbers" and "Refusal numbers". Assumes nothing.
 use Prim.Native.Nat.{ℕ}
-use mathlib.Core.Bool.{Bool}
+use mathlib.Core.Path.{_≡_}
+use mathlib.Core.Bool.{Bool, true}
 use mathlib.Core.List.{List, [], _∷_, _++_}
 use lib.Dec.{leb}
 use lib.IntN.{ℤ}
@@ -26,8 +27,12 @@ numberAnswered (Refused n) = refused n
 abbrev pub beforeText : List ℕ → StrPtr → ℕ → List (ℕ × Bool)
 beforeText s p base = (3, storeFits s) ∷ (3, isBase base) ∷ (1, goodIn (length s) p) ∷ (2, readable s p) ∷ []
 
+-- of a text, whether it is a number, and the number that it says
+abbrev pub ofValue : Bool → ℤ → List (ℕ × Bool)
+ofValue formed z = (7, formed) ∷ (8, inRange z) ∷ []
+
 abbrev pub ofText : ℕ → List ℕ → List (ℕ × Bool)
-ofText base t = (7, isNumber base t) ∷ (8, inRange (numberOf base t)) ∷ []
+ofText base t = ofValue (isNumber base t) (numberOf base t)
 
 abbrev pub readChecks : List ℕ → StrPtr → ℕ → List (ℕ × Bool)
 readChecks s p base = beforeText s p base ++ ofText base (textOf s p)
@@ -42,8 +47,8 @@ readRule s p base = outcome (readRefusal s p base) (numberOf base (textOf s p))
 
 -- ---- writing
 
--- the checks of a writing, in their order: those that are made before its digits are counted, then that of the room. The destination is
--- not read, and 6 goes by its maximum
+-- the checks of a writing, in their order: those that are made before its digits are counted, then that of the room.
+-- The destination is not read, and 6 goes by its maximum
 abbrev pub beforeDigits : List ℕ → StrPtr → ℤ → ℕ → List (ℕ × Bool)
 beforeDigits s p z base = (3, storeFits s) ∷ (3, isBase base) ∷ (1, goodIn (length s) p) ∷ (8, inRange z) ∷ []
 
@@ -57,7 +62,12 @@ writeChecks s p z base = beforeDigits s p z base ++ ofRoom p z base
 unfoldable pub writeRefusal : List ℕ → StrPtr → ℤ → ℕ → ℕ
 writeRefusal s p z base = first (writeChecks s p z base)
 
--- its answer, and the store afterwards: the text from the destination's start on, the length set, every byte past it as it was
+-- its answer, and the store afterwards: the text from the destination's start on, the length set, every byte past it as
+-- it was
 unfoldable pub writeRule : List ℕ → StrPtr → ℤ → ℕ → Outcome StrPtr × List ℕ
 writeRule s p z base =
     ruled (writeRefusal s p z base) (sized p (length (written base z))) (put s (p .start) (written base z)) s
+
+-- a pointer that a writing gives is good for the store
+abbrev pub WriteGood : Type 0
+WriteGood = (s : List ℕ) (p : StrPtr) (z : ℤ) (base : ℕ) (q : StrPtr) → writeRule s p z base .0 ≡ gives q → goodIn (length s) q ≡ true

@@ -1,4 +1,5 @@
--- The round trip, and the fewest digits: demand 2 and 01, "Numbers", as claims on the definitions, each once over the base. Assumes nothing.
+-- The round trip, and the fewest digits: demand 2 and 01, "Numbers", as claims on the definitions, each once over the
+-- base. Assumes nothing.
 use Prim.Native.Nat.{ℕ, _≤_, _<_}
 use mathlib.Core.Path.{_≡_}
 use mathlib.Core.Bool.{true}
@@ -18,7 +19,8 @@ pub record RoundTrip : Type 0 where
   -- on the texts
   pub texts : (base : ℕ) (z : ℤ) → isBase base ≡ true → inRange z ≡ true
       → (isNumber base (written base z) ≡ true) × (numberOf base (written base z) ≡ z)
-  -- through the calls: written into a good destination with room enough, and read from the returned pointer in the store as it is then
+  -- through the calls: written into a good destination with room enough, and read from the returned pointer in the
+  -- store as it is then
   pub calls : (s : List ℕ) (p : StrPtr) (z : ℤ) (base : ℕ)
       → storeFits s ≡ true → isBase base ≡ true → goodIn (length s) p ≡ true → inRange z ≡ true → length (written base z) ≤ p .maximum
       → (writeRule s p z base .0 ≡ gives (sized p (length (written base z))))

@@ -1,4 +1,5 @@
--- What a text says: 01, "Numbers". Zero or more blanks, an optional minus, one or more digits of the base, nothing more. Assumes nothing.
+-- What a text says: 01, "Numbers". Zero or more blanks, an optional minus, one or more digits of the base, nothing
+-- more. Assumes nothing.
 use Prim.Native.Nat.{ℕ, _+_, _-_, _*_}
 use mathlib.Core.Bool.{Bool, false, cond, _&&_}
 use mathlib.Core.List.{List, [], _∷_}

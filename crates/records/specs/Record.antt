@@ -14,7 +14,7 @@ use Rattle.records.specs.Walk.{lastOf}
 abbrev pub headSize : ℕ
 headSize = 3
 
--- characters of a name, and bytes of a record, by its kind
+-- characters of a name, and bytes of a record, of a kind: the same for both
 unfoldable pub widthOf : ℕ → ℕ
 widthOf kind = 16
 
@@ -47,7 +47,7 @@ numberIn rest = getD rest 1 0 * 256 + getD rest 2 0
 unfoldable pub nameIn : List ℕ → List ℕ
 nameIn rest = take (widthOf (kindOf rest)) (drop headSize rest)
 
--- record k, counted from 0, lies at k times the size of the first
+-- record k, counted from 0, lies at k times the size of the first: all are of one size
 unfoldable pub placeOf : List ℕ → ℕ → ℕ
 placeOf l k = recordSize (kindOf l) * k
 

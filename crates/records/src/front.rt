@@ -19,7 +19,7 @@ pub fn kind_of(rest: &[u8]) -> u8
 }
 
 // The number of two bytes, the high byte first.
-fn joined(high: u8, low: u8) -> usize
+fn two_bytes(high: u8, low: u8) -> usize
     ensures { λ r. ⌜ r ≡ high * 256 + low ⌝ }
 {
     (high as usize) * 256 + (low as usize)
@@ -28,7 +28,7 @@ fn joined(high: u8, low: u8) -> usize
 pub fn number_of(rest: &[u8]) -> usize
     ensures { λ r. ⌜ r ≡ numberIn (now (rest .entry)) ⌝ }
 {
-    joined(byte_at(rest, 1), byte_at(rest, 2))
+    two_bytes(byte_at(rest, 1), byte_at(rest, 2))
 }
 
 pub fn name_in(rest: &[u8]) -> &[u8]
@@ -51,6 +51,6 @@ pub fn body_refusal(rest: &[u8]) -> u8
     let kind = kind_of(rest);
     let found = strlib::check(0, 11, 1 <= kinds::limit_of(kind));
     let found = strlib::check(found, 11, kinds::size_of(kind) <= rest.len());
-    let found = strlib::check(found, 12, kinds::is_number(kind, number_of(rest)));
+    let found = strlib::check(found, 12, kinds::is_number_of(kind, number_of(rest)));
     strlib::check(found, 2, kinds::is_name(name_in(rest)))
 }

@@ -11,7 +11,7 @@ pub const LOUDSPEAKERS_MAX: usize = 128;
 pub const HEAD: usize = 3;
 
 // Characters of a name.
-const NAME: usize = 16;
+pub const NAME: usize = 16;
 
 // The greatest number of a kind: 1, microphones, or 2, loudspeakers; 0 for what is no kind.
 pub fn limit_of(kind: u8) -> usize
@@ -39,7 +39,7 @@ pub fn size_of(kind: u8) -> usize
     HEAD + width_of(kind)
 }
 
-pub fn is_number(kind: u8, number: usize) -> bool
+pub fn is_number_of(kind: u8, number: usize) -> bool
     ensures { λ r. ⌜ r ≡ isNumberOf kind number ⌝ }
 {
     strlib::both(1 <= number, number <= limit_of(kind))
@@ -67,5 +67,5 @@ pub fn key_refusal(kind: u8, number: usize) -> u8
     ensures { λ r. ⌜ r ≡ keyRefusal kind number ⌝ }
 {
     let found = strlib::check(0, 11, 1 <= limit_of(kind));
-    strlib::check(found, 12, is_number(kind, number))
+    strlib::check(found, 12, is_number_of(kind, number))
 }

@@ -7,7 +7,7 @@ ghost use Rattle.moving.specs.Moving.{pasted};
 ghost use Rattle.records.specs.Record.{newRefusal, fittedBytes};
 
 // Bytes of a record.
-const SIZE: usize = 19;
+const SIZE: usize = kinds::HEAD + kinds::NAME;
 
 // What a record is refused with behind a good list with this room behind it, 0 for nothing.
 pub fn new_refusal(list: &[u8], room: usize, kind: u8, number: usize, name: &[u8]) -> u8

@@ -1,5 +1,6 @@
--- Laws of the nested loops. Where p characters were passed, what is left to search is the rest of the host; where k strings were tried at
--- a position, the first that stands there is among the others; each turn keeps both. Assumes nothing.
+-- Laws of the nested loops. Where p characters were passed, what is left to search is the rest of the host; where k
+-- strings were tried at a position, the first that stands there is among the others; each turn keeps both. Assumes
+-- nothing.
 use Prim.Native.Nat.{ℕ, zero, suc, _+_, _-_, _≤_, _<_}
 use mathlib.Core.Path.{_≡_, refl, sym, _∙_}
 use mathlib.Core.Bool.{Bool, true, false, cond}
@@ -76,7 +77,8 @@ moved-onward p (found j pos1 pos2) =
     let b : p + suc pos2 ≡ p + 1 + pos2 = omega arith in
     rw (a, b)
 
--- no string stands at one of the first p positions: the search is that among the characters left, and finds nothing past the last position
+-- no string stands at one of the first p positions: the search is that among the characters left, and finds nothing
+-- past the last position
 unfoldable pub Passed : List (List ℕ) → List ℕ → ℕ → Type 0
 Passed ss h p = plainSearch ss h ≡ cond (leb p (length h)) (moved p (plainSearch ss (drop p h))) nothing
 

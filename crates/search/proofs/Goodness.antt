@@ -1,5 +1,5 @@
--- The pointers that a search gives: parts of a good host that end no later are good, and parts that lie one behind the other are one part.
--- Assumes nothing.
+-- The pointers that a search gives: parts of a good host that end no later are good, and parts that lie one behind the
+-- other are one part. Assumes nothing.
 use Prim.Native.Nat.{ℕ, _+_, _-_, _≤_}
 use mathlib.Core.Path.{_≡_, refl, sym, ap, _∙_}
 use mathlib.Core.Bool.{true}

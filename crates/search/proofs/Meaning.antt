@@ -1,5 +1,5 @@
--- The law of the plain search. The first listed prefix is found by going through the list, and a character more in front moves every
--- occurrence by one position, so the law follows by going through the host. Assumes nothing.
+-- The law of the plain search. The first listed prefix is found by going through the list, and a character more in
+-- front moves every occurrence by one position, so the law follows by going through the host. Assumes nothing.
 use Prim.Native.Nat.{ℕ, zero, suc, _+_, _-_, _≤_, _<_}
 use mathlib.Core.Path.{_≡_, refl, sym, ap, _∙_}
 use mathlib.Core.Bool.{Bool, true, false, true≢false}

@@ -17,7 +17,8 @@ findingOf (Found p) = gives (found (p .number) (p .pos1) (p .pos2))
 findingOf Nothing = gives nothing
 findingOf (Refused n) = refused n
 
--- what the code asks before it makes pointers: two positions of the host in their order, in a room whose end a store may have
+-- what the code asks before it makes pointers: two positions of the host in their order, in a room whose end a store
+-- may have
 pub record Within (host : StrPtr) (pos1 pos2 : ℕ) : Type 0 where
   pub from : 1 ≤ pos1
   pub order : pos1 ≤ pos2

@@ -1,5 +1,5 @@
--- What the plain search gives, in the words of 01, "Searching": the smallest position, then the smallest number, and nothing exactly
--- where no listed string occurs. Assumes nothing.
+-- What the plain search gives, in the words of 01, "Searching": the smallest position, then the smallest number, and
+-- nothing exactly where no listed string occurs. Assumes nothing.
 use Prim.Native.Nat.{ℕ, _+_, _-_, _≤_}
 use mathlib.Core.Path.{_≡_}
 use mathlib.Core.List.{List, []}

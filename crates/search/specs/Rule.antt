@@ -15,7 +15,8 @@ use Rattle.search.specs.declared.SearchAnswer.the-variants.{Found, Nothi
 use Rattle.search.specs.declared.SplitAnswer.{SplitAnswer}
 use Rattle.search.specs.declared.SplitAnswer.the-variants.{Found as SplitFound, Nothing as SplitNothing, Refused as SplitRefused}
 
--- the store and the count; the host's pointer and the listed ones; the host's characters and those of the listed strings
+-- the store and the count; the host's pointer and the listed ones; the host's characters and those of the listed
+-- strings
 abbrev pub searchChecks : List ℕ → StrPtr → List StrPtr → ℕ → List (ℕ × Bool)
 searchChecks s host list count =
     (3, storeFits s) ∷ (3, leb count 32) ∷ (1, goodIn (length s) host) ∷ (1, all (goodIn (length s)) (take count list))

@@ -1,5 +1,5 @@
--- The plain search: 01, "Searching", over characters. The strings and the host are lists of characters; numbers and positions count from 1.
--- Assumes nothing.
+-- The plain search: 01, "Searching", over characters. The strings and the host are lists of characters; numbers and
+-- positions count from 1. Assumes nothing.
 use Prim.Native.Nat.{ℕ, zero, suc}
 use mathlib.Core.Bool.{Bool, true, false, _&&_}
 use mathlib.Core.List.{List, [], _∷_}
@@ -17,13 +17,14 @@ abbrev pub further : ℕ → ℕ
 further zero = zero
 further (suc n) = suc (suc n)
 
--- the number of the first string that passes a test: 1 where the string in front does, else by its number n among the others
+-- the number of the first string that passes a test: 1 where the string in front does, else by its number n among the
+-- others
 abbrev pub firstNumber : Bool → ℕ → ℕ
 firstNumber true n = 1
 firstNumber false n = further n
 
--- the number of the first listed string that stands at the front of w, 0 for none. With such a string a search over w is closed: nothing
--- behind the front can come before it
+-- the number of the first listed string that stands at the front of w, 0 for none. With such a string a search over w
+-- is closed: nothing behind the front can come before it
 abbrev pub closed : List (List ℕ) → List ℕ → ℕ
 closed [] w = zero
 closed (s ∷ ss) w = firstNumber (isPrefix s w) (closed ss w)

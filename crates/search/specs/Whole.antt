@@ -1,5 +1,5 @@
--- What holds of the pointers that a search gives, 01, "Searching": each is good for the store, and together they are the host's
--- characters. Assumes nothing.
+-- What holds of the pointers that a search gives, 01, "Searching": each is good for the store, and together they are
+-- the host's characters. Assumes nothing.
 use Prim.Native.Nat.{ℕ}
 use mathlib.Core.Path.{_≡_}
 use mathlib.Core.Bool.{true}

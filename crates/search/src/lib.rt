@@ -1,4 +1,5 @@
-// Plain parallel search: the earliest position at which a listed string occurs, and of those that occur there the first listed.
+// Plain parallel search: the earliest position at which a listed string occurs, and of those that occur there the first
+// listed.
 mod find;
 
 use find::Finding;

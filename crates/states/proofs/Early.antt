@@ -1,5 +1,6 @@
--- Where the answer is sure, one character more leads to a stop. A text that has not led to a stop can still become a listed string, and the
--- answer then ends past the text; an answer found in a text ends inside it. And a stop is led to only where the answer is sure. Assumes nothing.
+-- Where the answer is sure, one character more leads to a stop. A text that has not led to a stop can still become a
+-- listed string, and the answer then ends past the text; an answer found in a text ends inside it. And a stop is led to
+-- only where the answer is sure. Assumes nothing.
 use Prim.Native.Nat.{ℕ, zero, suc, _+_, _≤_}
 use mathlib.Core.Path.{_≡_, refl, sym, ap, _∙_}
 use mathlib.Core.Bool.{Bool, true, false, false≢true}
@@ -14,10 +15,10 @@ use Rattle.strlib.specs.Pointer.{all, characters}
 use Rattle.search.proofs.Answering.{found-bounds}
 use Rattle.search.proofs.Prefixes.{stands-prefix}
 use Rattle.search.specs.Search.{isPrefix, closed, lengthOf, Result, nothing, found, onward, atFront, plainSearch}
-use Rattle.states.specs.Node.{live, kindOf, Node, stop, at, reach}
+use Rattle.states.specs.Node.{live, textKind, Node, stop, at, reach}
 use Rattle.states.specs.Sure.{Sure, EmptySure, NothingSure}
 use Rattle.states.proofs.Prefixes.{apart-longer, how, length-snoc}
-use Rattle.states.proofs.Reaching.{kindOf-cons, live≢shut, live≢dead, at≢stop, dead-closed, dead-longer, kind-case, search-front, stopped}
+use Rattle.states.proofs.Reaching.{textKind-cons, live≢shut, live≢dead, at≢stop, dead-closed, dead-longer, kind-case, search-front, stopped}
 
 -- ---- what a live text can become
 
@@ -58,15 +59,15 @@ grows-later : (s : List ℕ) (ss : List (List ℕ)) (w : List ℕ) → isPrefix 
 grows-later s ss w p q g =
     record { rest = g .rest; plain = g .plain; number = suc (g .number); closes = rw (apart-longer s w (g .rest) p q, g .closes); long = g .long }
 
-live-grows : (ss : List (List ℕ)) (w : List ℕ) → all characters ss ≡ true → kindOf ss w ≡ live → Grows ss w
+live-grows : (ss : List (List ℕ)) (w : List ℕ) → all characters ss ≡ true → textKind ss w ≡ live → Grows ss w
 unfolding all
 live-grows [] w k e = absurd (live≢dead (sym e))
 live-grows (s ∷ ss) w k e =
     let b = and-both (characters s) (all characters ss) k in
     how s w
     (λ p. grows-here s ss w (prefix-rest w s p (b .0)))
-    (λ p q. absurd (live≢shut (sym (rw (kindOf-cons, p, q) at e))))
-    (λ p q. grows-later s ss w p q (live-grows ss w (b .1) (rw (kindOf-cons, p, q) at e)))
+    (λ p q. absurd (live≢shut (sym (rw (textKind-cons, p, q) at e))))
+    (λ p q. grows-later s ss w p q (live-grows ss w (b .1) (rw (textKind-cons, p, q) at e)))
 
 -- ---- a text that has not led to a stop is not sure for good
 
@@ -106,12 +107,12 @@ unsettled-later ss x t d o =
 
 reach-unsettled : (ss : List (List ℕ)) (t : List ℕ) {w : List ℕ} → all characters ss ≡ true → reach ss t ≡ at w → Unsettled ss t
 reach-unsettled ss [] k e =
-    kind-case (kindOf ss [])
+    kind-case (textKind ss [])
     (λ p. unsettled-here ss [] (live-grows ss [] k p))
     (λ p. absurd (at≢stop (sym (rw p at e))))
     (λ p. absurd (at≢stop (sym (rw p at e))))
 reach-unsettled ss (x ∷ t) k e =
-    kind-case (kindOf ss (x ∷ t))
+    kind-case (textKind ss (x ∷ t))
     (λ p. unsettled-here ss (x ∷ t) (live-grows ss (x ∷ t) k p))
     (λ p. absurd (at≢stop (sym (rw p at e))))
     (λ p. unsettled-later ss x t (λ z. dead-closed ss (x ∷ t ++ z) (dead-longer ss (x ∷ t) z p)) (reach-unsettled ss t k (rw p at e)))

@@ -1,5 +1,5 @@
--- The first sure place of each example: from it on no continuation matters; before it there is one with which the answer ends elsewhere.
--- Assumes nothing.
+-- The first sure place of each example: from it on no continuation matters; before it there is one with which the
+-- answer ends elsewhere. Assumes nothing.
 use Prim.Native.Nat.{ℕ, zero, suc, _≤_}
 use mathlib.Core.Path.{_≡_, refl, sym, ap, _∙_}
 use mathlib.Core.Bool.{true, false, false≢true}

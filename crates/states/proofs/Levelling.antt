@@ -11,9 +11,9 @@ use lib.Seq.{take-suc, drop-append-le, getD-set-same, getD-set-other}
 use borrow.Author.Tests.{lt-ltb, le-ltb}
 use Rattle.strlib.proofs.Pointing.{either}
 use Rattle.states.specs.Node.{reach}
-use Rattle.states.specs.State.{total, before, stateOf, RowAt}
+use Rattle.states.specs.State.{total, totalTo, stateOf, RowAt}
 use Rattle.states.specs.Fill.{wordOrStop, Frame, Short, Stepped, levelOf, Levels, Kept}
-use Rattle.states.proofs.Reaching.{kindOf-cons}
+use Rattle.states.proofs.Reaching.{textKind-cons}
 use Rattle.states.proofs.Numbering.{state-apart, state-le}
 use Rattle.states.proofs.Rowing.{same-or-not, step-word, row-stays, short-of}
 
@@ -37,22 +37,22 @@ level-le l j i = go (ltb i j)
     go false = omega arith
 
 module _ (ss : List (List ℕ)) (ws ws′ fs : List ℕ) (l j r : ℕ) (l0 : 0 < l) (hj : j < length ss) (hf : length ss ≤ length fs)
-    (lv : Levels ss ws fs l j) (st : Stepped ss ws ws′ (getD ss j []) l (suc (before ss j + l)) r) where
-  keep : (p : ℕ) (v : List ℕ) → (l ≤ length (getD ss j []) → p ≡ suc (before ss j + l) → ⊥) → RowAt ss ws p v → RowAt ss ws′ p v
+    (lv : Levels ss ws fs l j) (st : Stepped ss ws ws′ (getD ss j []) l (suc (totalTo ss j + l)) r) where
+  keep : (p : ℕ) (v : List ℕ) → (l ≤ length (getD ss j []) → p ≡ suc (totalTo ss j + l) → ⊥) → RowAt ss ws p v → RowAt ss ws′ p v
   keep p v n o =
       either l (length (getD ss j []))
-      (λ (a : l ≤ length (getD ss j [])). row-stays ss ws ws′ p (suc (before ss j + l)) v (st .frame a) (n a) o)
+      (λ (a : l ≤ length (getD ss j [])). row-stays ss ws ws′ p (suc (totalTo ss j + l)) v (st .frame a) (n a) o)
       (λ (a : length (getD ss j []) < l). rw (st .same a) o)
 
-  rows : (i k : ℕ) → i < length ss → 0 < k → k < levelOf l (j + 1) i → k ≤ length (getD ss i []) → RowAt ss ws′ (suc (before ss i + k)) (take k (getD ss i []))
+  rows : (i k : ℕ) → i < length ss → 0 < k → k < levelOf l (j + 1) i → k ≤ length (getD ss i []) → RowAt ss ws′ (suc (totalTo ss i + k)) (take k (getD ss i []))
   rows i k hi k0 kl kn =
       same-or-not i j
       (λ e. same-or-not k l
       (λ d. rw (e, d) (st .row (rw (e, d) at kn)))
-      (λ d. keep (suc (before ss i + k)) _
+      (λ d. keep (suc (totalTo ss i + k)) _
       (λ a p. d (state-apart ss i j k l hi hj k0 kn l0 a (omega arith) .1))
       (lv .rows i k hi k0 (let y : k < suc l = (rw (e, level-same) at kl) in let x : k < levelOf l j i = (rw (e, level-old) (omega arith)) in x) kn)))
-      (λ e. keep (suc (before ss i + k)) _
+      (λ e. keep (suc (totalTo ss i + k)) _
       (λ a p. e (state-apart ss i j k l hi hj k0 kn l0 a (omega arith) .0))
       (lv .rows i k hi k0 (rw (level-other l j i e) at kl) kn))
 
@@ -86,7 +86,7 @@ one-none (x ∷ s) = refl
 
 pub start-one : (ss : List (List ℕ)) → 0 < length ss → stateOf ss (reach ss []) ≡ 1
 start-one [] h = absurd (omega arith)
-start-one (s ∷ ss) h = rw (kindOf-cons s ss [])
+start-one (s ∷ ss) h = rw (textKind-cons s ss [])
 
 pub level-start : (ss : List (List ℕ)) (ws fs : List ℕ) → RowAt ss ws 1 [] → ((i : ℕ) → i < length ss → getD fs i 0 ≡ 1) → Levels ss ws fs 1 0
 level-start ss ws fs r f =
@@ -114,10 +114,10 @@ kept-frame ws ws₁ ws₂ q s k f h =
     record { len = f .len ∙ k .len; front = f .low 0 (omega arith) ∙ k .front; high = λ i l. f .high i (omega arith) ∙ k .high i l }
 
 pub kept-step : (ss : List (List ℕ)) (ws ws₁ ws₂ : List ℕ) (l j r : ℕ) → j < length ss → Kept ws ws₁ (1 + 130 * (total ss + 2))
-    → Stepped ss ws₁ ws₂ (getD ss j []) l (suc (before ss j + l)) r → Kept ws ws₂ (1 + 130 * (total ss + 2))
+    → Stepped ss ws₁ ws₂ (getD ss j []) l (suc (totalTo ss j + l)) r → Kept ws ws₂ (1 + 130 * (total ss + 2))
 kept-step ss ws ws₁ ws₂ l j r hj k st =
     either l (length (getD ss j []))
-    (λ (a : l ≤ length (getD ss j [])). kept-frame ws ws₁ ws₂ (suc (before ss j + l)) (total ss + 2) k (st .frame a) (omega (arith, state-le ss j l hj a)))
+    (λ (a : l ≤ length (getD ss j [])). kept-frame ws ws₁ ws₂ (suc (totalTo ss j + l)) (total ss + 2) k (st .frame a) (omega (arith, state-le ss j l hj a)))
     (λ (a : length (getD ss j []) < l). rw (st .same a) k)
 
 pub kept-trans : (ws ws₁ ws₂ : List ℕ) (n : ℕ) → Kept ws ws₁ n → Kept ws₁ ws₂ n → Kept ws ws₂ n

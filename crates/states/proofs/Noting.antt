@@ -1,4 +1,5 @@
--- What is noted: one character more changes the answer of the plain search exactly by the note of the text that was read. Assumes nothing.
+-- What is noted: one character more changes the answer of the plain search exactly by the note of the text that was
+-- read. Assumes nothing.
 use Prim.Native.Nat.{ℕ, zero, suc, _-_, _≤_}
 use mathlib.Core.Path.{_≡_, refl, sym, ap, _∙_}
 use mathlib.Core.Bool.{Bool, true, false, true≢false}
@@ -11,9 +12,9 @@ use borrow.Author.Tests.{eq-eqb, ne-eqb}
 use Rattle.strlib.proofs.Refusing.{bool-case}
 use Rattle.search.proofs.Prefixes.{prefix-length}
 use Rattle.search.specs.Search.{isPrefix, further, closed, lengthOf, Result, nothing, found, onward, atFront, plainSearch}
-use Rattle.states.specs.Node.{shut, kindOf, reach, onlyWhere, whole, noteAt, nodeNote}
+use Rattle.states.specs.Node.{shut, textKind, reach, onlyWhere, whole, noteAt, nodeNote}
 use Rattle.states.proofs.Prefixes.{prefix-longer, prefix-same, prefix-snoc, length-snoc, how}
-use Rattle.states.proofs.Reaching.{kindOf-cons, live≢shut, shut≢dead, dead-closed, shut-closed, kind-case}
+use Rattle.states.proofs.Reaching.{textKind-cons, live≢shut, shut≢dead, dead-closed, shut-closed, kind-case}
 
 -- the lengths
 length-further : (s : List ℕ) (ss : List (List ℕ)) (i : ℕ) → lengthOf (s ∷ ss) (further i) ≡ lengthOf ss i
@@ -28,13 +29,13 @@ closed-length (s ∷ ss) w =
     (λ p. rw (p, length-further) (closed-length ss w))
 
 -- a shut node is no whole string
-pub shut-length : (ss : List (List ℕ)) (w : List ℕ) → kindOf ss w ≡ shut → lengthOf ss (closed ss w) ≡ length w → ⊥
+pub shut-length : (ss : List (List ℕ)) (w : List ℕ) → textKind ss w ≡ shut → lengthOf ss (closed ss w) ≡ length w → ⊥
 shut-length [] w e l = shut≢dead (sym e)
 shut-length (s ∷ ss) w e l =
     how s w
-    (λ p. live≢shut (rw (kindOf-cons, p) at e))
+    (λ p. live≢shut (rw (textKind-cons, p) at e))
     (λ p q. true≢false (sym (prefix-same s w q (rw q at l)) ∙ p))
-    (λ p q. shut-length ss w (rw (kindOf-cons, p, q) at e) (rw (q, length-further) at l))
+    (λ p q. shut-length ss w (rw (textKind-cons, p, q) at e) (rw (q, length-further) at l))
 
 -- what holds of both numbers and of 0 holds of the one that is noted
 whole-holds : (P : ℕ → Type 0) → P 0 → (ss : List (List ℕ)) (i n r : ℕ) → P i → P r → P (whole ss i n r)
@@ -58,12 +59,12 @@ whole-shut ss i n r (k, q) h = rw (q, ne-eqb (lengthOf ss (suc k)) n (rw q at h)
 
 pub note-reach : (ss : List (List ℕ)) (w : List ℕ) → noteAt ss w ≡ nodeNote ss (reach ss w)
 note-reach ss [] =
-    kind-case (kindOf ss [])
+    kind-case (textKind ss [])
     (λ p. rw p)
     (λ p. rw p (whole-shut ss (closed ss []) zero zero (shut-closed ss [] p) (shut-length ss [] p)))
     (λ p. rw (p, dead-closed ss [] p))
 note-reach ss (x ∷ w) =
-    kind-case (kindOf ss (x ∷ w))
+    kind-case (textKind ss (x ∷ w))
     (λ p. rw p)
     (λ p. rw p (whole-shut ss (closed ss (x ∷ w)) (suc (length w)) (noteAt ss w) (shut-closed ss (x ∷ w) p) (shut-length ss (x ∷ w) p)))
     (λ p. rw (p, dead-closed ss (x ∷ w) p) (note-reach ss w))

@@ -1,4 +1,5 @@
--- The number that a run over the nodes of a list reads: at most one character past a place at which the answer is sure. Assumes nothing.
+-- The number that a run over the nodes of a list reads: at most one character past a place at which the answer is sure.
+-- Assumes nothing.
 use Prim.Native.Nat.{ℕ, zero, suc, _+_, _≤_, _<_}
 use mathlib.Core.Path.{_≡_, refl, sym, ap, _∙_}
 use mathlib.Core.Bool.{true}

@@ -1,4 +1,5 @@
--- A row from its parts: the default of the tail, the strings that go on, the note; and rows that other writes leave. Assumes nothing.
+-- A row from its parts: the default of the tail, the strings that go on, the note; and rows that other writes leave.
+-- Assumes nothing.
 use Prim.Native.Nat.{ℕ, zero, suc, _+_, _*_, _≤_, _<_}
 use mathlib.Core.Path.{_≡_, refl, sym, ap, _∙_}
 use mathlib.Core.Bool.{Bool, true, false}
@@ -14,11 +15,11 @@ use Rattle.search.proofs.Prefixes.{prefix-length, prefix-stands}
 use Rattle.search.specs.Search.{isPrefix, further, firstNumber, closed, lengthOf}
 use Rattle.table.specs.Run.{wordOf}
 use Rattle.states.specs.Node.{child, Node, stop, at, reach, noteAt, nodeNote}
-use Rattle.states.specs.State.{total, before, offset, stateOf, IsNode, RowAt}
+use Rattle.states.specs.State.{total, totalTo, totalBefore, stateOf, IsNode, RowAt}
 use Rattle.states.specs.Fill.{limit, ifOpen, defaultNote, rootTo, wordOrStop, newNote, Frame, Flat, Defaulted, Children, NotePut, Default, Rowed, Short, Levels}
 use Rattle.states.proofs.Reaching.{live-child, reach-live, reach-step, reach-length}
 use Rattle.states.proofs.Noting.{note-reach, note-closed}
-use Rattle.states.proofs.Numbering.{before-zero, further-pos, state-le, state-pos}
+use Rattle.states.proofs.Numbering.{totalTo-zero, further-pos, state-le, state-pos}
 use Rattle.states.proofs.Targeting.{reach-target}
 
 pub same-or-not : {P : Type 0} (i j : ℕ) → (i ≡ j → P) → ((i ≡ j → ⊥) → P) → P
@@ -124,7 +125,7 @@ row-of ss ws ws₁ ws₂ q cl u e d kids n =
       row = record {
         next = λ c l.
             n .frame .low (1 + 130 * q + c) (omega arith) ∙ w .here c l
-            ∙ rw (before-zero (take (limit cl (length ss)) ss), e, d .next c l) (reach-target ss u c);
+            ∙ rw (totalTo-zero (take (limit cl (length ss)) ss), e, d .next c l) (reach-target ss u c);
         notes = n .notes ∙ rw (w .frame .high (1 + 130 * q + 128) (omega arith), d .notes, e) (note-new ss u);
         wide = n .wide ∙ rw (w .frame .high (1 + 130 * q + 129) (omega arith), d .wide, e) (wide-new ss u);
       };
@@ -162,11 +163,11 @@ child-is (s ∷ ss) v h =
 
 -- the row of a node from the rows of the strings' prefixes
 module _ (ss : List (List ℕ)) (ws : List ℕ) (n : ℕ) (root : RowAt ss ws 1 [])
-    (rows : (i k : ℕ) → i < length ss → 0 < k → k < n → k ≤ length (getD ss i []) → RowAt ss ws (suc (before ss i + k)) (take k (getD ss i []))) where
+    (rows : (i k : ℕ) → i < length ss → 0 < k → k < n → k ≤ length (getD ss i []) → RowAt ss ws (suc (totalTo ss i + k)) (take k (getD ss i []))) where
   node-row : (x : ℕ) (v : List ℕ) → ChildIs ss (x ∷ v) → suc (length v) < n → RowAt ss ws (stateOf ss (at (x ∷ v))) (x ∷ v)
   node-row x v (k, (a, b, c)) l =
       let r = rows k (suc (length v)) b (omega arith) l (prefix-length (x ∷ v) (getD ss k []) c) in
-      let e : stateOf ss (at (x ∷ v)) ≡ suc (before ss k + suc (length v)) = ap (λ (j : ℕ). suc (offset ss j + suc (length v))) a in
+      let e : stateOf ss (at (x ∷ v)) ≡ suc (totalTo ss k + suc (length v)) = ap (λ (j : ℕ). suc (totalBefore ss j + suc (length v))) a in
       rw e (rw (prefix-stands (x ∷ v) (getD ss k []) c) at r)
 
   pub short-of : Short ss ws n

@@ -1,5 +1,6 @@
--- The run over words that hold the rows of a list finds what the plain search finds: after each character the note is the plain search's
--- answer for what was read, and a stop changes nothing for any continuation. The number read is that of the run over the nodes. Assumes nothing.
+-- The run over words that hold the rows of a list finds what the plain search finds: after each character the note is
+-- the plain search's answer for what was read, and a stop changes nothing for any continuation. The number read is that
+-- of the run over the nodes. Assumes nothing.
 use Prim.Native.Nat.{ℕ, zero, suc, _+_, _≤_, _<_}
 use mathlib.Core.Path.{_≡_, refl, sym, ap, _∙_}
 use mathlib.Core.Bool.{true}
@@ -24,7 +25,8 @@ use Rattle.states.proofs.Noting.{renoted, note-length, note-count, note
 use Rattle.states.proofs.Reading.{readFrom, readOver, read-early}
 use Rattle.states.proofs.Numbering.{state-lt, state-pos}
 
--- a node stands for the text t: it is a stop like t's, or it goes on as t does. The start stands for [], for an empty list too
+-- a node stands for the text t: it is a stop like t's, or it goes on as t does. The start stands for [], for an empty
+-- list too
 abbrev Stands : List (List ℕ) → List ℕ → Node → Type 0
 Stands ss t stop = reach ss t ≡ stop
 Stands ss t (at v) = (c : ℕ) → reach ss (t ++ (c ∷ [])) ≡ reach ss (v ++ (c ∷ []))

@@ -1,5 +1,6 @@
--- Where a run over any words rests: it has read all, or stopped, and then nothing behind what it read could matter. So words that find what the
--- search finds stop only where the answer is sure; and what was found is followed by one character more. Assumes nothing.
+-- Where a run over any words rests: it has read all, or stopped, and then nothing behind what it read could matter. So
+-- words that find what the search finds stop only where the answer is sure; and what was found is followed by one
+-- character more. Assumes nothing.
 use Prim.Native.Nat.{ℕ, zero, suc, _+_, _≤_}
 use mathlib.Core.Path.{_≡_, refl, sym, ap, _∙_}
 use mathlib.Core.Bool.{Bool, true, false, _&&_}
@@ -25,7 +26,8 @@ ends-later : (m : ℕ) (r : Result) → EndsBy m r → EndsBy (suc m) r
 ends-later m nothing k = tt
 ends-later m (found j pos1 pos2) k = omega arith
 
--- a state was entered with m characters read: a stop notes nothing, another state may note what ends with the last of them
+-- a state was entered with m characters read: a stop notes nothing, another state may note what ends with the last of
+-- them
 abbrev Arrived : ℕ → Walk → Type 0
 Arrived m bad = Unit {0}
 Arrived m (rests zero n r) = (n ≡ m) × EndsBy n r
@@ -45,7 +47,8 @@ module _ (ws : List ℕ) (size : ℕ) where
   arrived zero n r k = (refl, k)
   arrived (suc q) n r k = arrived-noted q (wordOf ws (suc q) 128) (wordOf ws (suc q) 129) n r k
 
-  -- where a run over h rests, from w with m characters read: it has read them all; or it stopped, and would have with anything else behind what it read
+  -- where a run over h rests, from w with m characters read: it has read them all; or it stopped, and would have with
+  -- anything else behind what it read
   abbrev Rested : List ℕ → Walk → ℕ → Walk → Type 0
   Rested h w m bad = Unit {0}
   Rested h w m (rests zero n r) = (d : ℕ) × (m + d ≡ n) × EndsBy n r × ((z : List ℕ) → walk ws size (take d h ++ z) w ≡ rests zero n r)

@@ -1,7 +1,7 @@
 -- What each writer of words leaves, one word more at a time. Assumes nothing.
 use Prim.Native.Nat.{ℕ, zero, suc, _+_, _-_, _*_, _≤_, _<_}
 use mathlib.Core.Path.{_≡_, refl, sym, ap, _∙_}
-use mathlib.Core.Bool.{Bool, true, false, _&&_, false≢true, cond}
+use mathlib.Core.Bool.{Bool, true, false, false≢true, cond, and-true}
 use mathlib.Core.List.{List, [], _∷_, _++_}
 use native.Mathlib.Omega.{arith}
 use lib.Dec.{eqb, ltb}
@@ -13,10 +13,10 @@ use Rattle.strlib.proofs.Refusing.{bool-case, and-both}
 use Rattle.search.proofs.Prefixes.{prefix-length}
 use Rattle.search.specs.Search.{isPrefix}
 use Rattle.table.specs.Run.{wordOf}
-use Rattle.states.specs.State.{before}
+use Rattle.states.specs.State.{totalTo}
 use Rattle.states.specs.Fill.{newNote, Frame, Wrote, Filled, Copied, Flat, Defaulted, Put, Children, NotePut, Rowed}
 use Rattle.states.proofs.Prefixes.{not-prefix-longer, length-snoc}
-use Rattle.states.proofs.Numbering.{before-suc}
+use Rattle.states.proofs.Numbering.{totalTo-suc}
 use Rattle.states.proofs.Rowing.{same-or-not}
 
 pub frame-none : (ws : List ℕ) (base n : ℕ) → Frame ws ws base n
@@ -99,12 +99,12 @@ flat ws ws₁ ws₂ base v a b =
 pub flat-of : (ws ws₁ ws₂ : List ℕ) (q v : ℕ) → Filled ws ws₁ (1 + 130 * q) 128 v → Filled ws₁ ws₂ (1 + 130 * q + 128) 2 0 → Flat ws ws₂ q v
 flat-of ws ws₁ ws₂ q v f g = record { wrote = flat ws ws₁ ws₂ (1 + 130 * q) v (f .wrote) (g .wrote) }
 
-choose-same : (b : Bool) (n : ℕ) → cond b n n ≡ n
-choose-same true n = refl
-choose-same false n = refl
+cond-same : (b : Bool) (n : ℕ) → cond b n n ≡ n
+cond-same true n = refl
+cond-same false n = refl
 
 pub default-zero : (ws ws′ : List ℕ) (q from : ℕ) → Flat ws ws′ q 0 → from ≡ 0 → Defaulted ws ws′ q from
-default-zero ws ws′ q from w e = rw e (record { wrote = record { frame = w .wrote .frame; here = λ c h. w .wrote .here c h ∙ choose-same (ltb c 128) 0 } })
+default-zero ws ws′ q from w e = rw e (record { wrote = record { frame = w .wrote .frame; here = λ c h. w .wrote .here c h ∙ cond-same (ltb c 128) 0 } })
 
 pub default-copy : (ws ws′ : List ℕ) (q from : ℕ) → Copied ws ws′ from q 130 → (from ≡ 0 → ⊥) → Defaulted ws ws′ q from
 default-copy ws ws′ q zero w e = absurd (e refl)
@@ -116,11 +116,7 @@ on-short u x c h = bool-case (isPrefix (u ++ (c ∷ [])) x) (λ p. absurd (omega
 
 pub on-at : (u x : List ℕ) (c : ℕ) → isPrefix u x ≡ true → length u < length x → isPrefix (u ++ (c ∷ [])) x ≡ eqb c (getD x (length u) 0)
 on-at [] [] c p h = absurd (omega arith)
-on-at [] (y ∷ x) c p h = and-true (eqb c y)
-  where
-    and-true : (b : Bool) → (b && true) ≡ b
-    and-true true = refl
-    and-true false = refl
+on-at [] (y ∷ x) c p h = rw and-true
 on-at (a ∷ u) [] c p h = absurd (omega arith)
 on-at (a ∷ u) (y ∷ x) c p h =
     bool-case (eqb a y)
@@ -151,7 +147,7 @@ module _ (ws : List ℕ) (base : ℕ) (u : List ℕ) (ss : List (List ℕ)) wher
   children-none k h = record { wrote = record { frame = frame-none ws base 128; here = λ c l. rw (drop-of-length-le ss h) } }
 
   pub children-more : (ws₁ ws₂ : List ℕ) (k v : ℕ) (x : List ℕ) → Children ws ws₁ base u ss k → 0 < k → k ≤ length ss → x ≡ getD ss (k - 1) []
-      → v ≡ before ss (k - 1) + length u + 2
+      → v ≡ totalTo ss (k - 1) + length u + 2
       → Put ws₁ ws₂ base v u x
       → Children ws ws₂ base u ss (k - 1)
   children-more ws₁ ws₂ zero v x w k0 kl e f p = absurd (omega arith)
@@ -160,12 +156,12 @@ module _ (ws : List ℕ) (base : ℕ) (u : List ℕ) (ss : List (List ℕ)) wher
       let p = put .wrote in
       let z : suc k - 1 ≡ k = omega arith in
       let g : getD ss (suc k - 1) [] ≡ getD ss k [] = ap (λ (i : ℕ). getD ss i []) z in
-      let b : before ss (suc k - 1) ≡ before ss k = ap (before ss) z in
-      let y : v ≡ suc (before ss k + suc (length u)) = omega arith in
+      let b : totalTo ss (suc k - 1) ≡ totalTo ss k = ap (totalTo ss) z in
+      let y : v ≡ suc (totalTo ss k + suc (length u)) = omega arith in
       record {
         wrote = record {
           frame = frame-then ws ws₁ ws₂ base 128 (w .frame) (p .frame);
-          here = λ c l. p .here c l ∙ rw (w .here c l, z, e, g, y, drop-cons ss k [] (omega arith), before-suc ss k (omega arith));
+          here = λ c l. p .here c l ∙ rw (w .here c l, z, e, g, y, drop-cons ss k [] (omega arith), totalTo-suc ss k (omega arith));
         };
       }
 

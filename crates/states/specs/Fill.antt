@@ -1,5 +1,5 @@
--- How the rows of a table are filled: what the functions of the translator promise one another. Each record says what stands in the words
--- ws′ after a function was lent the words ws. Assumes nothing.
+-- How the rows of a table are filled: what the functions of the translator promise one another. Each record says what
+-- stands in the words ws′ after a function was lent the words ws. Assumes nothing.
 use Prim.Native.Nat.{ℕ, zero, suc, _+_, _*_, _≤_, _<_}
 use mathlib.Core.Path.{_≡_}
 use mathlib.Core.Bool.{Bool, true, false, cond}
@@ -9,11 +9,12 @@ use lib.ListN.{length, getD, take, drop}
 use Rattle.search.specs.Search.{isPrefix, closed, lengthOf}
 use Rattle.table.specs.Run.{wordOf}
 use Rattle.states.specs.Node.{at, reach, noteAt}
-use Rattle.states.specs.State.{before, stateOf, IsNode, RowAt}
+use Rattle.states.specs.State.{totalTo, stateOf, IsNode, RowAt}
 
 -- ---- what a row is made of
 
--- the next state of u by c: that of the first of the strings that goes on past u with c, else d; `off` characters stand before the strings
+-- the next state of u by c: that of the first of the strings that goes on past u with c, else d; `off` characters stand
+-- before the strings
 abbrev pub target : List (List ℕ) → ℕ → List ℕ → ℕ → ℕ → ℕ
 target [] off u c d = d
 target (s ∷ ss) off u c d = cond (isPrefix (u ++ (c ∷ [])) s) (suc (off + suc (length u))) (target ss (off + length s) u c d)
@@ -85,7 +86,7 @@ pub record Put (ws ws′ : List ℕ) (base v : ℕ) (u x : List ℕ) : Type 0 wh
 
 -- the strings from number k + 1 on that go on past u
 pub record Children (ws ws′ : List ℕ) (base : ℕ) (u : List ℕ) (ss : List (List ℕ)) (k : ℕ) : Type 0 where
-  pub wrote : Wrote ws ws′ base 128 (λ c. target (drop k ss) (before ss k) u c (getD ws (base + c) 0))
+  pub wrote : Wrote ws ws′ base 128 (λ c. target (drop k ss) (totalTo ss k) u c (getD ws (base + c) 0))
 
 -- the note of state q where its closing string, of n characters, is the whole text, of l
 pub record NotePut (ws ws′ : List ℕ) (q closing n l : ℕ) : Type 0 where
@@ -125,7 +126,7 @@ levelOf l j i = cond (ltb i j) (suc l) l
 pub record Levels (ss : List (List ℕ)) (ws fs : List ℕ) (l j : ℕ) : Type 0 where
   pub root : RowAt ss ws 1 []
   pub rows : (i k : ℕ) → i < length ss → 0 < k → k < levelOf l j i → k ≤ length (getD ss i [])
-      → RowAt ss ws (suc (before ss i + k)) (take k (getD ss i []))
+      → RowAt ss ws (suc (totalTo ss i + k)) (take k (getD ss i []))
   pub fail : (i : ℕ) → i < length ss → levelOf l j i ≤ length (getD ss i [])
       → getD fs i 0 ≡ stateOf ss (reach ss (drop 1 (take (levelOf l j i) (getD ss i []))))
 

@@ -1,5 +1,5 @@
--- Which texts a table has states for, and what is noted in them. `closed` is the first listed string that a text begins with, `child` the
--- first that begins with the text. Assumes nothing.
+-- Which texts a table has states for, and what is noted in them. `closed` is the first listed string that a text begins
+-- with, `child` the first that begins with the text. Assumes nothing.
 use Prim.Native.Nat.{ℕ, zero, suc}
 use mathlib.Core.Bool.{Bool, true, false}
 use mathlib.Core.List.{List, [], _∷_, _++_}
@@ -12,8 +12,8 @@ abbrev pub child : List (List ℕ) → List ℕ → ℕ
 child [] w = zero
 child (s ∷ ss) w = firstNumber (isPrefix w s) (child ss w)
 
--- a text is live where a listed string may yet be found at its front before any that is there now; shut where the string found at its front
--- is the answer; dead where none can be found at its front
+-- a text is live where a listed string may yet be found at its front before any that is there now; shut where the
+-- string found at its front is the answer; dead where none can be found at its front
 pub data Kind : Type 0 where
   live shut dead : Kind
 
@@ -28,8 +28,8 @@ kind zero (suc j) = live
 kind (suc i) zero = shut
 kind (suc i) (suc j) = lead (leb j i)
 
-abbrev pub kindOf : List (List ℕ) → List ℕ → Kind
-kindOf ss w = kind (closed ss w) (child ss w)
+abbrev pub textKind : List (List ℕ) → List ℕ → Kind
+textKind ss w = kind (closed ss w) (child ss w)
 
 -- a stop, or the text that matters
 pub data Node : Type 0 where
@@ -43,8 +43,8 @@ arrive dead v r = r
 
 -- the longest end of a text that matters to what is found when the text goes on
 abbrev pub reach : List (List ℕ) → List ℕ → Node
-reach ss [] = arrive (kindOf ss []) [] stop
-reach ss (x ∷ w) = arrive (kindOf ss (x ∷ w)) (x ∷ w) (reach ss w)
+reach ss [] = arrive (textKind ss []) [] stop
+reach ss (x ∷ w) = arrive (textKind ss (x ∷ w)) (x ∷ w) (reach ss w)
 
 -- the node after one character more
 abbrev pub nextNode : List (List ℕ) → Node → ℕ → Node
@@ -60,7 +60,8 @@ abbrev pub whole : List (List ℕ) → ℕ → ℕ → ℕ → ℕ
 whole ss zero n r = r
 whole ss (suc k) n r = onlyWhere (eqb (lengthOf ss (suc k)) n) (suc k)
 
--- the number noted at a text: its closing string where this is the whole text, none where it is shorter; else what is noted at the text's tail
+-- the number noted at a text: its closing string where this is the whole text, none where it is shorter; else what is
+-- noted at the text's tail
 abbrev pub noteAt : List (List ℕ) → List ℕ → ℕ
 noteAt ss [] = whole ss (closed ss []) zero zero
 noteAt ss (x ∷ v) = whole ss (closed ss (x ∷ v)) (suc (length v)) (noteAt ss v)

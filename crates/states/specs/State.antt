@@ -1,5 +1,5 @@
--- The numbers of the states, and what the row of a state holds. State 0 stops, state 1 is the empty text, and the first l > 0 characters of a
--- string are state 1 + (the characters of the strings before it) + l. Assumes nothing.
+-- The numbers of the states, and what the row of a state holds. State 0 stops, state 1 is the empty text, and the first
+-- l > 0 characters of a string are state 1 + (the characters of the strings before it) + l. Assumes nothing.
 use Prim.Native.Nat.{ℕ, zero, suc, _+_, _*_, _≤_, _<_}
 use mathlib.Core.Path.{_≡_}
 use mathlib.Core.List.{List, [], _∷_, _++_}
@@ -15,21 +15,21 @@ total [] = zero
 total (s ∷ ss) = length s + total ss
 
 -- those of the first k strings
-abbrev pub before : List (List ℕ) → ℕ → ℕ
-before [] k = zero
-before (s ∷ ss) zero = zero
-before (s ∷ ss) (suc k) = length s + before ss k
+abbrev pub totalTo : List (List ℕ) → ℕ → ℕ
+totalTo [] k = zero
+totalTo (s ∷ ss) zero = zero
+totalTo (s ∷ ss) (suc k) = length s + totalTo ss k
 
 -- those of the strings before string number j
-abbrev pub offset : List (List ℕ) → ℕ → ℕ
-offset ss zero = zero
-offset ss (suc k) = before ss k
+abbrev pub totalBefore : List (List ℕ) → ℕ → ℕ
+totalBefore ss zero = zero
+totalBefore ss (suc k) = totalTo ss k
 
 -- a node's state: a text that several strings begin with is the first one's
 abbrev pub stateOf : List (List ℕ) → Node → ℕ
 stateOf ss stop = 0
 stateOf ss (at []) = 1
-stateOf ss (at (x ∷ v)) = suc (offset ss (child ss (x ∷ v)) + suc (length v))
+stateOf ss (at (x ∷ v)) = suc (totalBefore ss (child ss (x ∷ v)) + suc (length v))
 
 -- a text that has a state: the empty one, or what a listed string begins with
 abbrev pub IsNode : List (List ℕ) → List ℕ → Type 0

@@ -1,5 +1,5 @@
--- Laws of refusals: the checks made one behind the other find the first that fails, and an answer follows from the number found.
--- Assumes nothing.
+-- Laws of refusals: the checks made one behind the other find the first that fails, and an answer follows from the
+-- number found. Assumes nothing.
 use mathlib.Core.Path.{_≡_, refl, ap, _∙_}
 use mathlib.Core.Bool.{Bool, true, false, cond, _&&_, false≢true}
 use mathlib.Core.List.{List, [], _∷_, _++_}

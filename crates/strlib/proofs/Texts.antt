@@ -1,4 +1,5 @@
--- Laws of the characters of listed strings, by induction on the list, and of one of the characters of a string. Assumes nothing.
+-- Laws of the characters of listed strings, by induction on the list, and of one of the characters of a string. Assumes
+-- nothing.
 use mathlib.Core.Path.{_≡_, refl, ap}
 use mathlib.Core.Bool.{true, _&&_}
 use mathlib.Core.List.{List, [], _∷_, _++_}

@@ -1,13 +1,14 @@
 -- String pointers and what they name in a store: 01, "What the library covers". Assumes nothing.
 use Prim.Native.Nat.{ℕ, _+_, min, max}
 use mathlib.Core.Bool.{Bool, true, _&&_}
-use mathlib.Core.List.{List, [], _∷_, map}
+use mathlib.Core.List.{List, [], _∷_, _++_, map}
 use lib.Dec.{leb}
 use lib.ListN.{length, take, drop}
 use Rattle.strlib.specs.declared.StrPtr.{StrPtr}
 
--- every pointer of a rule is made by one of these three: from its start, length and maximum; in the same room with another length; and
--- as a part of a string, at a place of its own, where what a pointer may be marked with is handed on
+-- every pointer of a rule is made by one of these three: from its start, length and maximum; in the same room with
+-- another length; and as a part of a string, at a place of its own, where what a pointer may be marked with is handed
+-- on
 unfoldable pub pointer : ℕ → ℕ → ℕ → StrPtr
 pointer a n m = record { start = a; length = n; maximum = m }
 
@@ -40,6 +41,11 @@ textOf s p = take (p .length) (drop (p .start) s)
 -- the characters of listed strings, string by string
 unfoldable pub texts : List ℕ → List StrPtr → List (List ℕ)
 texts s ps = map (textOf s) ps
+
+-- texts one behind the other
+unfoldable pub joined : List (List ℕ) → List ℕ
+joined [] = []
+joined (x ∷ xss) = x ++ joined xss
 
 -- f holds of each element
 unfoldable pub all : {A : Type 0} → (A → Bool) → List A → Bool

@@ -1,5 +1,5 @@
-// The checks over a list: its first `count` pointers, in their order. The language has no function values, so the one loop is told by
-// a refusal's number which test it makes.
+// The checks over a list: its first `count` pointers, in their order. The language has no function values, so the one
+// loop is told by a refusal's number which test it makes.
 use super::StrList;
 use super::StrPtr;
 use super::checks;

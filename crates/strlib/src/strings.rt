@@ -4,7 +4,8 @@ ghost use mathlib.Core.Path.{_≡_};
 ghost use Prim.Native.Nat.{max};
 ghost use Rattle.strlib.specs.Pointer.{textOf, characters, readable, within, apart, clear};
 
-// Whether each byte is a character, 0 to 127. The greatest byte tells; a loop that never leaves early is compiled to take many bytes at a time.
+// Whether each byte is a character, 0 to 127. The greatest byte tells; a loop that never leaves early is compiled to
+// take many bytes at a time.
 pub fn are_characters(bytes: &[u8]) -> bool
     ensures { λ r. ⌜ r ≡ characters (now (bytes .entry)) ⌝ }
 {

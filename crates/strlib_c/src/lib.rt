@@ -1,4 +1,5 @@
-// The calls of include/strlib.h, each the call of the library that its name says, with its answer made flat. Arguments come in the header's order.
+// The calls of include/strlib.h, each the call of the library that its name says, with its answer made flat. Arguments
+// come in the header's order.
 mod comparing;
 mod copies;
 mod cuts;

@@ -1,5 +1,6 @@
--- Laws of a run in pieces: a text in two parts is walked part by part, a state that was entered may be entered anew, and what a run hands on is
--- one of its states with a note that it can make, having read all unless it stopped. Assumes nothing.
+-- Laws of a run in pieces: a text in two parts is walked part by part, a state that was entered may be entered anew,
+-- and what a run hands on is one of its states with a note that it can make, having read all unless it stopped. Assumes
+-- nothing.
 use Prim.Native.Nat.{ℕ, zero, suc, _+_, _-_, _≤_}
 use mathlib.Core.Path.{_≡_, refl}
 use mathlib.Core.Bool.{Bool, true, false, _&&_}

@@ -1,4 +1,5 @@
--- Laws of a run that goes on: where it may, the code enters and walks as the rule does; else it reads nothing. Assumes nothing.
+-- Laws of a run that goes on: where it may, the code enters and walks as the rule does; else it reads nothing. Assumes
+-- nothing.
 use mathlib.Core.Path.{_≡_, sym, _∙_}
 use mathlib.Core.Bool.{Bool, true, false, _&&_, and-true}
 use mathlib.Core.List.{List}

@@ -1,6 +1,6 @@
 -- Laws of the run's code: each return is a clause of the rule. Assumes nothing.
 use mathlib.Core.Path.{_≡_, refl, sym, ap, _∙_}
-use mathlib.Core.Bool.{true, false, and-false}
+use mathlib.Core.Bool.{Bool, true, false, and-false}
 use mathlib.Core.List.{List, [], _∷_}
 use Prim.Native.Nat.{ℕ, zero, suc, _+_, _-_, _*_, _≤_, _<_}
 use native.Mathlib.Numerals.{add-one}
@@ -9,6 +9,7 @@ use lib.Dec.{leb, ltb}
 use lib.ListN.{length, getD, drop}
 use borrow.Author.Needs.{needs}
 use borrow.Author.Tests.{leb-true, le-leb, lt-leb, lt-ltb, le-ltb}
+use Rattle.strlib.proofs.Checking.{first-both}
 use Rattle.strlib.proofs.Pointing.{fits-is, good-is, text-length}
 use Rattle.strlib.proofs.Refusing.{and-both, first-is, first-before, first-behind, passed, outcome-no, outcome-gave}
 use Rattle.strlib.specs.Pointer.{storeFits, goodIn, textOf, characters, readable}
@@ -18,7 +19,7 @@ use Rattle.strlib.specs.declared.StrPtr.{StrPtr}
 use Rattle.search.proofs.Placing.{placed-some, placed-none}
 use Rattle.search.specs.Inner.{placed}
 use Rattle.search.specs.Search.{Result, nothing, found}
-use Rattle.table.specs.Run.{sizeOf, wordOf, isSized, Walk, bad, rests, onlyIf, noted, enter, step, walk, runOver, isRest, ranOf, beforeChecks, metChecks, runChecks, runRefusal, runRule}
+use Rattle.table.specs.Run.{sizeOf, wordOf, isSized, Walk, bad, rests, onlyIf, noted, enter, step, walk, runOver, isRest, ranOf, hostChecks, beforeChecks, metChecks, runRefusal, runRule}
 use Rattle.table.specs.Inner.{noteOf, restsOf, walkedOf, Entered, beforeRun, ended}
 use Rattle.table.specs.declared.Progress.{Progress}
 use Rattle.table.specs.declared.Walked.{Walked}
@@ -220,6 +221,26 @@ pub run-checked : (s : List ℕ) (host : StrPtr) (ws : List ℕ) (found₁ : ℕ
 unfolding beforeRun
 run-checked s host ws found₁ e₁ found₂ e₂ found₃ e₃ found₄ e₄ = first-is (beforeChecks s host ws) refl found₄ (rw (e₄, e₃, e₂, e₁))
 
+-- what is known where the checks of a host find nothing
+pub record HostPassed (s : List ℕ) (host : StrPtr) : Type 0 where
+  pub fits : storeFits s ≡ true
+  pub good : goodIn (length s) host ≡ true
+  pub plain : readable s host ≡ true
+
+pub host-passed : (s : List ℕ) (host : StrPtr) → first (hostChecks s host) ≡ 0 → HostPassed s host
+host-passed s host e = let ok = passed (hostChecks s host) refl e in record { fits = ok .0; good = ok .1 .0; plain = ok .1 .1 .0 }
+
+-- and where those before a state is entered do
+record BeforePassed (s : List ℕ) (host : StrPtr) (ws : List ℕ) : Type 0 where
+  pub known : HostPassed s host
+  pub sized : isSized ws ≡ true
+
+before-passed : (s : List ℕ) (host : StrPtr) (ws : List ℕ) → first (beforeChecks s host ws) ≡ 0 → BeforePassed s host ws
+before-passed s host ws e =
+    let own : List (ℕ × Bool) = (10, isSized ws) ∷ [] in
+    let b = first-both (hostChecks s host) own refl e in
+    record { known = host-passed s host (b .0); sized = passed own refl (b .1) .0 }
+
 module _ (s : List ℕ) (host : StrPtr) (ws : List ℕ) where
   -- nothing was refused before: the answer is the run's
   ran : beforeRun s host ws ≡ 0 → ended (runOver ws (textOf s host)) ≡ runRule s host ws
@@ -245,7 +266,8 @@ module _ (s : List ℕ) (host : StrPtr) (ws : List ℕ) where
   unfolding runRefusal runRule readable
   run-gave a e =
       let g = outcome-gave (runRefusal s host ws) (ranOf (runOver ws (textOf s host))) a e in
-      (passed (runChecks s host ws) refl (g .0) .1 .1 .0, g .1)
+      let b = first-both (beforeChecks s host ws) (metChecks s host ws) refl (g .0) in
+      (before-passed s host ws (b .0) .known .plain, g .1)
 
   module _ (k : ℕ) (e : k ≡ beforeRun s host ws) where
     pub run-refused : (k ≡ 0 → ⊥) → refused k ≡ runRule s host ws
@@ -253,19 +275,21 @@ module _ (s : List ℕ) (host : StrPtr) (ws : List ℕ) where
     run-refused h = outcome-no k (runRefusal s host ws) (first-before (beforeChecks s host ws) (metChecks s host ws) k e h) (ranOf (runOver ws (textOf s host))) h
 
     module _ (z : k ≡ 0) where
-      pub run-sized : isSized ws ≡ true
+      before-run : BeforePassed s host ws
       unfolding beforeRun
-      run-sized = passed (beforeChecks s host ws) refl (sym e ∙ z) .1 .1 .1 .0
+      before-run = before-passed s host ws (sym e ∙ z)
+
+      pub run-sized : isSized ws ≡ true
+      run-sized = before-run .sized
 
       pub run-characters : (t : List ℕ) → t ≡ textOf s host → characters t ≡ true
-      unfolding beforeRun readable
-      run-characters t p = ap characters p ∙ passed (beforeChecks s host ws) refl (sym e ∙ z) .1 .1 .0
+      unfolding readable
+      run-characters t p = ap characters p ∙ before-run .known .plain
 
       pub run-short : (t : List ℕ) → t ≡ textOf s host → length t ≤ 65536
-      unfolding beforeRun
       run-short t p =
-          let c = passed (beforeChecks s host ws) refl (sym e ∙ z) in
-          omega (arith, ap length p, text-length s host (c .1 .0), good-is (length s) host (c .1 .0), fits-is s (c .0))
+          let ok = before-run .known in
+          omega (arith, ap length p, text-length s host (ok .good), good-is (length s) host (ok .good), fits-is s (ok .fits))
 
       pub run-given : (t : List ℕ) → t ≡ textOf s host → (w : Walk) → w ≡ runOver ws t → (a : Outcome (Result × ℕ)) → a ≡ ended w → a ≡ runRule s host ws
       run-given t p w d a x = x ∙ ap ended (d ∙ ap (runOver ws) p) ∙ ran (sym e ∙ z)

@@ -8,8 +8,8 @@ use Rattle.strlib.specs.Pointer.{characters}
 use Rattle.search.specs.Search.{Result}
 use Rattle.table.specs.Run.{sizeOf, isSized, Walk, onlyIf, enter, walk}
 
--- a run may go on over the text h in state q with n characters read: the words are a table that has the state, the bytes are characters, and
--- no more are read than a store has
+-- a run may go on over the text h in state q with n characters read: the words are a table that has the state, the
+-- bytes are characters, and no more are read than a store has
 unfoldable pub canResume : List ℕ → List ℕ → ℕ → ℕ → Bool
 canResume ws h q n = isSized ws && (ltb q (sizeOf ws) && (characters h && leb (n + length h) 65536))
 

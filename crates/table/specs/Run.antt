@@ -1,4 +1,5 @@
--- The run of a table over a host: 01, "The search table". A table is a list of words, and any words may be passed. Assumes nothing.
+-- The run of a table over a host: 01, "The search table". A table is a list of words, and any words may be passed.
+-- Assumes nothing.
 use Prim.Native.Nat.{ℕ, zero, suc, _+_, _-_, _*_}
 use mathlib.Core.Bool.{Bool, true, false, _&&_}
 use mathlib.Core.List.{List, [], _∷_, _++_}
@@ -23,7 +24,8 @@ wordOf ws q k = getD ws (1 + 130 * q + k) 0
 unfoldable pub isSized : List ℕ → Bool
 isSized ws = leb 2 (sizeOf ws) && (leb (sizeOf ws) 242 && leb (1 + 130 * sizeOf ws) (length ws))
 
--- where a run rests: it met words that are no table; or it has entered state q (0: it stopped) with n characters read and the last note r
+-- where a run rests: it met words that are no table; or it has entered state q (0: it stopped) with n characters read
+-- and the last note r
 pub data Walk : Type 0 where
   bad : Walk
   rests : ℕ → ℕ → Result → Walk
@@ -67,8 +69,11 @@ ranOf bad = (nothing, 0)
 ranOf (rests q n r) = (r, n)
 
 -- the host's checks; then 10 in two parts: by the first word and the number of words, then as words are met
+abbrev pub hostChecks : List ℕ → StrPtr → List (ℕ × Bool)
+hostChecks s host = (3, storeFits s) ∷ (1, goodIn (length s) host) ∷ (2, readable s host) ∷ []
+
 abbrev pub beforeChecks : List ℕ → StrPtr → List ℕ → List (ℕ × Bool)
-beforeChecks s host ws = (3, storeFits s) ∷ (1, goodIn (length s) host) ∷ (2, readable s host) ∷ (10, isSized ws) ∷ []
+beforeChecks s host ws = hostChecks s host ++ ((10, isSized ws) ∷ [])
 
 abbrev pub metChecks : List ℕ → StrPtr → List ℕ → List (ℕ × Bool)
 metChecks s host ws = (10, isRest (runOver ws (textOf s host))) ∷ []

@@ -18,8 +18,8 @@ pub struct Note {
     pub pos2: usize,
 }
 
-// Where a run rests: the state that it has entered (0: it stopped), the number read, the last note (string 0: none). An enum for the note would be
-// copied from step to step, its unused bytes too.
+// Where a run rests: the state that it has entered (0: it stopped), the number read, the last note (string 0: none). An
+// enum for the note would be copied from step to step, its unused bytes too.
 pub struct Progress {
     pub state: usize,
     pub read: usize,

@@ -1,22 +1,19 @@
--- One translation and two hosts, in the words of demand 3: the answers are those of the plain search; the words lent are as the translator
--- leaves them. Assumes nothing.
+-- One translation and two hosts, in the words of demand 3: the answers are those of the plain search; the words lent
+-- are as the translator leaves them. Assumes nothing.
 use Prim.Native.Nat.{ℕ}
 use mathlib.Core.Path.{_≡_}
-use mathlib.Core.Bool.{Bool}
-use mathlib.Core.List.{List, [], _∷_}
+use mathlib.Core.List.{List}
 use lib.ListN.{length}
-use Rattle.strlib.specs.Pointer.{storeFits, goodIn, textOf, readable}
+use Rattle.strlib.specs.Pointer.{textOf}
 use Rattle.strlib.specs.Refusal.{Outcome, refused, gives, first, outcome}
 use Rattle.strlib.specs.declared.StrPtr.{StrPtr}
 use Rattle.search.specs.Search.{Result, plainSearch}
-use Rattle.table.specs.Run.{ranAnswered}
+use Rattle.table.specs.Run.{hostChecks, ranAnswered}
 use Rattle.translator.specs.Translate.{listed, translateRefusal, noteIn, Words}
 use Rattle.table_examples.specs.declared.TwoAnswer.{TwoAnswer}
 use Rattle.table_examples.specs.declared.TwoAnswer.the-variants.{Ran, Refused}
 
-abbrev pub hostChecks : List ℕ → StrPtr → List (ℕ × Bool)
-hostChecks s host = (3, storeFits s) ∷ (1, goodIn (length s) host) ∷ (2, readable s host) ∷ []
-
+-- the number that the checks of a host find, 0 for none
 unfoldable pub hostRefusal : List ℕ → StrPtr → ℕ
 hostRefusal s host = first (hostChecks s host)
 

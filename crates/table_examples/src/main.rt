@@ -1,6 +1,7 @@
-// Examples A to I of document 01, and a few more, through the plain search and through a table: one translation each, run over the host and over
-// the host without its first character. A line says what the table's run gives, and whether the plain search gives the same. Where a line says
-// less read than the host has, nothing that followed could change the answer (02, W12).
+// Examples A to I of document 01, and a few more, through the plain search and through a table: one translation each,
+// run over the host and over the host without its first character. A line says what the table's run gives, and whether
+// the plain search gives the same. Where a line says less read than the host has, nothing that followed could change
+// the answer (02, W12).
 use saying::say;
 use saying::say_number;
 use search::SearchAnswer;
@@ -115,7 +116,7 @@ fn show(name: &[u8], store: &[u8], host: u8, a: u8, b: u8, c: u8, count: usize) 
     let n = host as usize;
     let second = n + a as usize;
     let third = second + b as usize;
-    let mut list = [StrPtr::full(0, 0); 32];
+    let mut list = [StrPtr::full(0, 0); StrPtr::LIST_MAX];
     list[0] = StrPtr::full(n, a as usize);
     list[1] = StrPtr::full(second, b as usize);
     list[2] = StrPtr::full(third, c as usize);

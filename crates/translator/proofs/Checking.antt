@@ -38,6 +38,14 @@ list-checked s list count found₁ e₁ found₂ e₂ found₃ e₃ found₄ e�
 
 pub ruleset list-laws = (needs, list-checked)
 
+-- what is known where they find nothing
+record SourcePassed (s : List ℕ) (list : List StrPtr) (count : ℕ) : Type 0 where
+  pub small : length s ≤ 65536
+  pub few : count ≤ 32
+
+source-passed : (s : List ℕ) (list : List StrPtr) (count : ℕ) → first (sourceChecks s list count) ≡ 0 → SourcePassed s list count
+source-passed s list count e = let ok = passed (sourceChecks s list count) refl e in record { small = fits-is s (ok .0); few = leb-true _ _ (ok .1 .0) }
+
 module _ (s : List ℕ) (list : List StrPtr) (count words : ℕ) where
   module _ (k : ℕ) (e : k ≡ sourceRefusal s list count) where
     pub list-refused : (k ≡ 0 → ⊥) → k ≡ translateRefusal s list count words
@@ -51,11 +59,11 @@ module _ (s : List ℕ) (list : List StrPtr) (count words : ℕ) where
 
       pub list-few : count ≤ 32
       unfolding sourceRefusal
-      list-few = leb-true _ _ (passed (sourceChecks s list count) refl (sym e ∙ z) .1 .0)
+      list-few = source-passed s list count (sym e ∙ z) .few
 
       pub list-room : length s ≤ 65536
       unfolding sourceRefusal
-      list-room = fits-is s (passed (sourceChecks s list count) refl (sym e ∙ z) .0)
+      list-room = source-passed s list count (sym e ∙ z) .small
 
       module _ (n : ℕ) (en : n ≡ total (listed s list count)) where
         pub size-over : 240 < n → 9 ≡ translateRefusal s list count words

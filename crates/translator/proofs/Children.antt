@@ -11,9 +11,9 @@ use mir.Val.{Fits}
 use Rattle.strlib.proofs.Listing.{all-at}
 use Rattle.strlib.specs.Pointer.{textOf, all, characters}
 use Rattle.strlib.specs.declared.StrPtr.{StrPtr}
-use Rattle.states.proofs.Numbering.{before-le, before-total}
+use Rattle.states.proofs.Numbering.{totalTo-le, totalTo-all}
 use Rattle.states.proofs.Writing.{children-none, children-more, children-all}
-use Rattle.states.specs.State.{total, before}
+use Rattle.states.specs.State.{total, totalTo}
 use Rattle.states.specs.Fill.{Put, Children}
 use Rattle.translator.proofs.Common.{tells-long, tells-one}
 use Rattle.translator.proofs.Listing.{listed-is, listed-length, listed-next}
@@ -21,25 +21,25 @@ use Rattle.translator.specs.Translate.{listed}
 use Rattle.translator.specs.Common.{Tells, TellsAll}
 
 module _ (s : List ℕ) (list : List StrPtr) (m : ℕ) (few : m ≤ 32) (size : length list ≡ 32) where
-  pub child-all : (n : ℕ) → n ≡ total (listed s list m) → n ≡ before (listed s list m) m
-  child-all n e = e ∙ sym (before-total (listed s list m)) ∙ ap (before (listed s list m)) (listed-length s list m few size)
+  pub child-all : (n : ℕ) → n ≡ total (listed s list m) → n ≡ totalTo (listed s list m) m
+  child-all n e = e ∙ sym (totalTo-all (listed s list m)) ∙ ap (totalTo (listed s list m)) (listed-length s list m few size)
 
   pub child-none : (ws : List ℕ) (base : ℕ) (u : List ℕ) → Children ws ws base u (listed s list m) m
   child-none ws base u = children-none ws base u (listed s list m) m (omega (arith, listed-length s list m few size))
 
-  module _ (k n : ℕ) (x : List ℕ) (d : StrPtr) (k0 : 0 < k) (km : k ≤ m) (e : n ≡ before (listed s list m) k) (p : x ≡ textOf s (getD list (k - 1) d)) where
+  module _ (k n : ℕ) (x : List ℕ) (d : StrPtr) (k0 : 0 < k) (km : k ≤ m) (e : n ≡ totalTo (listed s list m) k) (p : x ≡ textOf s (getD list (k - 1) d)) where
     is : x ≡ getD (listed s list m) (k - 1) []
     is = sym (listed-is s list m few size (k - 1) x d (omega arith) p)
 
-    split : before (listed s list m) k ≡ before (listed s list m) (k - 1) + length x
+    split : totalTo (listed s list m) k ≡ totalTo (listed s list m) (k - 1) + length x
     split =
         let z : suc (k - 1) ≡ k = omega arith in
-        ap (before (listed s list m)) (sym z) ∙ listed-next s list m few size (k - 1) x d (omega arith) p
+        ap (totalTo (listed s list m)) (sym z) ∙ listed-next s list m few size (k - 1) x d (omega arith) p
 
     pub child-room : length x ≤ n
     child-room = omega (arith, split)
 
-    pub child-back : n - length x ≡ before (listed s list m) (k - 1)
+    pub child-back : n - length x ≡ totalTo (listed s list m) (k - 1)
     child-back = omega (arith, split)
 
     pub child-plain : all characters (listed s list m) ≡ true → characters x ≡ true
@@ -55,12 +55,12 @@ module _ (s : List ℕ) (list : List StrPtr) (m : ℕ) (few : m ≤ 32) (size : 
 
     module _ (l : ℕ) (small : total (listed s list m) ≤ 240) (short : l ≤ 240) where
       pub child-fits : Fits w64 (n - length x + l)
-      child-fits = omega (arith, before-le (listed s list m) k)
+      child-fits = omega (arith, totalTo-le (listed s list m) k)
 
       pub child-fits-2 : Fits w64 (n - length x + l + 2)
-      child-fits-2 = omega (arith, before-le (listed s list m) k)
+      child-fits-2 = omega (arith, totalTo-le (listed s list m) k)
 
       pub child-narrow : n - length x + l + 2 ≤ 65535
-      child-narrow = omega (arith, before-le (listed s list m) k)
+      child-narrow = omega (arith, totalTo-le (listed s list m) k)
 
 pub ruleset children-laws = (needs, child-all, child-none, child-room, child-back, child-plain, child-step, child-fits, child-fits-2, child-narrow, children-all, child-tells, tells-long)

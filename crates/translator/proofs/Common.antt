@@ -1,4 +1,5 @@
--- Laws of how far the listed strings are alike: the numbers of all strings, and what a number tells of a prefix. Assumes nothing.
+-- Laws of how far the listed strings are alike: the numbers of all strings, and what a number tells of a prefix.
+-- Assumes nothing.
 use mathlib.Core.Path.{_≡_, sym, ap, _∙_}
 use mathlib.Core.Bool.{_&&_, and-false}
 use mathlib.Core.List.{List, [], _∷_}

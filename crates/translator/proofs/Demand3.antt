@@ -1,5 +1,5 @@
--- Demand 3, from the two calls' rules: a list within the limits is not refused, so the words are a table, and the law of the plain search says
--- of each host what the note is. Assumes nothing.
+-- Demand 3, from the two calls' rules: a list within the limits is not refused, so the words are a table, and the law
+-- of the plain search says of each host what the note is. Assumes nothing.
 use mathlib.Core.Path.{_≡_, ap, _∙_}
 use mathlib.Core.List.{List}
 use Prim.Native.Nat.{ℕ}

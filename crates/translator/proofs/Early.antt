@@ -1,4 +1,5 @@
--- A run ends early, from the translator's rule: where it did not refuse, the words are a table, which says so of every place. Assumes nothing.
+-- A run ends early, from the translator's rule: where it did not refuse, the words are a table, which says so of every
+-- place. Assumes nothing.
 use mathlib.Core.Path.{_≡_, sym}
 use mathlib.Core.List.{List}
 use Prim.Native.Nat.{ℕ}

@@ -14,8 +14,8 @@ use Rattle.strlib.proofs.Texts.{texts-long, texts-take, listed-text}
 use Rattle.strlib.specs.Pointer.{textOf, texts}
 use Rattle.strlib.specs.declared.StrPtr.{StrPtr}
 use Rattle.search.specs.Search.{lengthOf}
-use Rattle.states.proofs.Numbering.{before-suc}
-use Rattle.states.specs.State.{total, before}
+use Rattle.states.proofs.Numbering.{totalTo-suc}
+use Rattle.states.specs.State.{total, totalTo}
 use Rattle.translator.specs.Translate.{listed}
 
 module _ (s : List ℕ) (list : List StrPtr) (n : ℕ) (few : n ≤ 32) (size : length list ≡ 32) where
@@ -39,9 +39,9 @@ module _ (s : List ℕ) (list : List StrPtr) (n : ℕ) (few : n ≤ 32) (size : 
     pub listed-is : getD (listed s list n) k [] ≡ x
     listed-is = listed-at k d h ∙ sym p
 
-    pub listed-next : before (listed s list n) (suc k) ≡ before (listed s list n) k + length x
+    pub listed-next : totalTo (listed s list n) (suc k) ≡ totalTo (listed s list n) k + length x
     listed-next =
-        before-suc (listed s list n) k (omega (arith, listed-length)) ∙ ap (λ (t : List ℕ). before (listed s list n) k + length t) listed-is
+        totalTo-suc (listed s list n) k (omega (arith, listed-length)) ∙ ap (λ (t : List ℕ). totalTo (listed s list n) k + length t) listed-is
 
 text-le : (s : List ℕ) (p : StrPtr) → length (textOf s p) ≤ length s
 unfolding textOf

@@ -10,16 +10,16 @@ use Rattle.table.specs.Run.{runRule}
 use Rattle.states.specs.Sure.{FirstSure}
 use Rattle.translator.specs.Translate.{listed, Host, Translated}
 
--- what a run over the words does with one host: it names what the plain search names, and reads at most one character past the first place at
--- which that is sure, if there is one; for an empty list this is before the first character (k = 0, `EmptySure`). The bound is on 01's number read:
--- the test for refusal 2 still looks at every byte of the host
+-- what a run over the words does with one host: it names what the plain search names, and reads at most one character
+-- past the first place at which that is sure, if there is one; for an empty list this is before the first character (k
+-- = 0, `EmptySure`). The bound is on 01's number read: the test for refusal 2 still looks at every byte of the host
 pub record EndsEarly (ss : List (List ℕ)) (words s : List ℕ) (host : StrPtr) : Type 0 where
   pub read : ℕ
   pub ran : runRule s host words ≡ gives (plainSearch ss (textOf s host), read)
   pub early : (k : ℕ) → FirstSure ss (textOf s host) k → read ≤ k + 1
 
--- any list that was translated, whatever the room held; any host that a run takes, in any store. It follows from the translator's promise, which
--- has the bound for every sure place (`Table`)
+-- any list that was translated, whatever the room held; any host that a run takes, in any store. It follows from the
+-- translator's promise, which has the bound for every sure place (`Table`)
 abbrev pub Early : Type 0
 Early =
     (s : List ℕ) (list : List StrPtr) (count : ℕ) (old new : List ℕ)

@@ -24,7 +24,7 @@ abbrev pub sourceChecks : List ℕ → List StrPtr → ℕ → List (ℕ × Bool
 sourceChecks s list count =
     (3, storeFits s) ∷ (3, leb count 32) ∷ (1, all (goodIn (length s)) (take count list)) ∷ (2, all (readable s) (take count list)) ∷ []
 
--- at most 240 of them, and at least 31,461 words
+-- at most 240 characters together, and at least 31,461 words
 abbrev pub sizeChecks : List ℕ → List StrPtr → ℕ → ℕ → List (ℕ × Bool)
 sizeChecks s list count words = (9, leb (total (listed s list count)) 240) ∷ (9, leb 31461 words) ∷ []
 
@@ -45,9 +45,10 @@ abbrev pub noteIn : Outcome (Result × ℕ) → Outcome Result
 noteIn (refused k) = refused k
 noteIn (gives a) = gives (a .0)
 
--- the words `new` that a translation of the strings ss leaves where it was lent the words `old`: S is 2 to 242, the words past 1 + 130S stay, and the
--- first 1 + 130S are free but for this: over a host that is good and of characters the run is not refused, its last note is the plain search's
--- answer, and it reads at most one character past each place at which that answer is sure, the first of them included (02, W12)
+-- the words `new` that a translation of the strings ss leaves where it was lent the words `old`: S is 2 to 242, the
+-- words past 1 + 130S stay, and the first 1 + 130S are free but for this: over a host that is good and of characters
+-- the run is not refused, its last note is the plain search's answer, and it reads at most one character past each
+-- place at which that answer is sure, the first of them included (02, W12)
 pub record Table (ss : List (List ℕ)) (old new : List ℕ) : Type 0 where
   pub low : 2 ≤ sizeOf new
   pub high : sizeOf new ≤ 242
@@ -67,6 +68,6 @@ pub record Translated (s : List ℕ) (list : List StrPtr) (count : ℕ) (old : L
   pub words : Words (translateRefusal s list count (length old)) (listed s list count) old new
 
 -- the paper's value for each case of the answer
-abbrev pub translated : TranslateAnswer → Outcome (Unit {0})
-translated Done = gives tt
-translated (Refused n) = refused n
+abbrev pub translateAnswered : TranslateAnswer → Outcome (Unit {0})
+translateAnswered Done = gives tt
+translateAnswered (Refused n) = refused n

@@ -1,5 +1,5 @@
-// How many characters each two listed strings begin alike with. It is found once: a row then compares its text with a string by numbers, and time
-// does not grow with the square of a string's length.
+// How many characters each two listed strings begin alike with. It is found once: a row then compares its text with a
+// string by numbers, and time does not grow with the square of a string's length.
 use strlib::StrList;
 use strlib::StrPtr;
 ghost use mathlib.Core.Path.{_≡_};

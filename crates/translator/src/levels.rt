@@ -8,7 +8,7 @@ ghost use Prim.Native.Nat.{_+_, _≤_, _<_};
 ghost use lib.ListN.{length};
 ghost use Rattle.states.specs.State.{total, RowAt};
 ghost use Rattle.states.specs.Fill.{Stepped, Levels};
-ghost use Rattle.translator.specs.Translate.{listed, translateRefusal, translated, Table, Translated};
+ghost use Rattle.translator.specs.Translate.{listed, translateRefusal, translateAnswered, Table, Translated};
 ghost use Rattle.translator.specs.Inner.{Ready, Turn, Leveled, Rows, sourceRefusal};
 ghost use Rattle.translator.specs.Common.{Alike, AlikeTo};
 
@@ -126,7 +126,7 @@ fn translate_refusal(store: &[u8], list: StrList, count: usize, words: usize) ->
 
 // The table of a list, for any number of hosts.
 pub fn translate(store: &[u8], list: StrList, count: usize, table: &mut [u16]) -> TranslateAnswer
-    ensures { λ r. ⌜ Translated (now (store .entry)) list count (now (table .entry)) (translated r) (now (table .exit)) ⌝ }
+    ensures { λ r. ⌜ Translated (now (store .entry)) list count (now (table .entry)) (translateAnswered r) (now (table .exit)) ⌝ }
 {
     let found = translate_refusal(store, list, count, table.len());
     if found != 0 {

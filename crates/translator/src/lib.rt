@@ -1,5 +1,5 @@
-// Translating a list of strings into a search table: 01, "The search table". The rows of the states are filled by the lengths of their texts, each
-// beginning as a copy of a shorter text's row.
+// Translating a list of strings into a search table: 01, "The search table". The rows of the states are filled by the
+// lengths of their texts, each beginning as a copy of a shorter text's row.
 mod alike;
 mod levels;
 
@@ -58,7 +58,8 @@ fn total_of(store: &[u8], list: StrList, m: usize) -> usize
     sum
 }
 
-// The number of the first listed string that u begins with, 0 for none. `alike` has the numbers of the string that u is cut from.
+// The number of the first listed string that u begins with, 0 for none. `alike` has the numbers of the string that u is
+// cut from.
 fn closed_by(store: &[u8], list: StrList, count: usize, u: &[u8], alike: &[usize]) -> usize
     requires { ⌜ (count ≤ 32) × TellsAll (now alike) (now u) (listed (now store) list count) ⌝ }
     ensures { λ r. ⌜ r ≡ closed (listed (now (store .entry)) list count) (now (u .entry)) ⌝ }
@@ -131,7 +132,8 @@ fn default_row(table: &mut [u16], q: usize, from: usize)
     }
 }
 
-// Where x goes on past u, its state v for the next character. `alike` is how far x and the string that u is cut from are alike.
+// Where x goes on past u, its state v for the next character. `alike` is how far x and the string that u is cut from
+// are alike.
 fn put_child(table: &mut [u16], base: usize, x: &[u8], u: &[u8], alike: usize, v: u16)
     requires { ⌜ (base + 128 ≤ length (now table)) × (characters (now x) ≡ true) × Tells alike (now u) (now x) ⌝ }
     ensures { λ _. ⌜ Put (now (table .entry)) (now (table .exit)) base v (now (u .entry)) (now (x .entry)) ⌝ }

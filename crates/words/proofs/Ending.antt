@@ -1,4 +1,5 @@
--- Laws of the loops: what is sought from a place on is sought from the place reached, as long as nothing was met. Assumes nothing.
+-- Laws of the loops: what is sought from a place on is sought from the place reached, as long as nothing was met.
+-- Assumes nothing.
 use mathlib.Core.Path.{_≡_, sym, _∙_}
 use mathlib.Core.List.{List}
 use Prim.Native.Nat.{ℕ, suc, _+_, _-_, _≤_, _<_}

@@ -1,4 +1,5 @@
--- Laws of how far two texts are alike: counting it, by what is left of both, and what the number tells. Assumes nothing.
+-- Laws of how far two texts are alike: counting it, by what is left of both, and what the number tells. Assumes
+-- nothing.
 use mathlib.Core.Path.{_≡_, refl, sym, _∙_}
 use mathlib.Core.Bool.{Bool, _&&_}
 use mathlib.Core.List.{List, [], _∷_}

@@ -1,4 +1,5 @@
--- Laws of lines: a line that begins at a place ends before the next byte 10, and the other lines begin behind that. Assumes nothing.
+-- Laws of lines: a line that begins at a place ends before the next byte 10, and the other lines begin behind that.
+-- Assumes nothing.
 use mathlib.Core.Path.{_≡_, refl, sym, ap, _∙_}
 use mathlib.Core.Bool.{Bool, true, false, cond}
 use mathlib.Core.List.{List, [], _∷_}
@@ -12,7 +13,7 @@ use lib.Seq.{drop-drop}
 use Rattle.strlib.specs.Pointer.{pointer, textOf}
 use Rattle.words.specs.Ends.{upTo, endOf}
 use Rattle.words.specs.Words.{pointerOf}
-use Rattle.words.specs.Lines.{linesIn, lines, nextLine, walk, WalksLines}
+use Rattle.words.specs.Lines.{linesIn, lines, nextLine, linesFrom, WalksLines}
 use Rattle.words.proofs.Wording.{upTo-take}
 
 module _ (s : List ℕ) (at e : ℕ) (q : e ≡ endOf 10 s at) where
@@ -80,13 +81,13 @@ pub line-none : (s : List ℕ) (at : ℕ) → length s ≤ at → lines (drop at
 unfolding linesIn
 line-none s at h = rw (drop-of-length-le s h)
 
-walk-from : (n : ℕ) (s : List ℕ) (at : ℕ) → length s ≤ at + n → walk n s at ≡ lines (drop at s)
-unfolding walk
+walk-from : (n : ℕ) (s : List ℕ) (at : ℕ) → length s ≤ at + n → linesFrom n s at ≡ lines (drop at s)
+unfolding linesFrom
 walk-from zero s at h = sym (line-none s at (omega arith))
 walk-from (suc n) s at h = go (ltb at (length s)) refl (λ m. walk-from n s (nextLine s at .next) m)
   where
-    go : (t : Bool) → ltb at (length s) ≡ t → (length s ≤ nextLine s at .next + n → walk n s (nextLine s at .next) ≡ lines (drop (nextLine s at .next) s))
-        → cond t (textOf s (pointerOf (nextLine s at)) ∷ walk n s (nextLine s at .next)) [] ≡ lines (drop at s)
+    go : (t : Bool) → ltb at (length s) ≡ t → (length s ≤ nextLine s at .next + n → linesFrom n s (nextLine s at .next) ≡ lines (drop (nextLine s at .next) s))
+        → cond t (textOf s (pointerOf (nextLine s at)) ∷ linesFrom n s (nextLine s at .next)) [] ≡ lines (drop at s)
     go true e r =
         let k : at < length s = ltb-true at (length s) e in
         rw (r (omega (arith, next-more s at k))) (sym (line-step s at k))

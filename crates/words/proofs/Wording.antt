@@ -1,4 +1,5 @@
--- Laws of words: behind the blanks from a place on stands the first word left, and behind it the other words. Assumes nothing.
+-- Laws of words: behind the blanks from a place on stands the first word left, and behind it the other words. Assumes
+-- nothing.
 use mathlib.Core.Path.{_≡_, refl, sym, ap, _∙_}
 use mathlib.Core.Bool.{Bool, true, false, cond}
 use mathlib.Core.List.{List, [], _∷_}
@@ -11,7 +12,7 @@ use lib.Seq.{drop-drop}
 use Rattle.strlib.proofs.Pointing.{is-good}
 use Rattle.strlib.specs.Pointer.{pointer, goodIn, textOf}
 use Rattle.words.specs.Ends.{upTo, blankCount, blanksEnd, endOf}
-use Rattle.words.specs.Words.{wordsIn, words, pointerOf, nextWord, firstWords}
+use Rattle.words.specs.Words.{wordsIn, words, pointerOf, nextWord, firstWords, NamesWords}
 use Rattle.strlib.specs.declared.StrPtr.{StrPtr}
 use Rattle.words.specs.declared.Piece.{Piece}
 
@@ -150,6 +151,15 @@ module _ (s : List ℕ) (at : ℕ) where
 abbrev word : ℕ → List ℕ → ℕ → ℕ → StrPtr → StrPtr
 word n s at k d = getD (firstWords n s at) k d
 
+-- the first words are the next word and the first of those behind it
+pub first-words-none : (s : List ℕ) (at : ℕ) → firstWords 0 s at ≡ []
+unfolding firstWords
+first-words-none s at = refl
+
+pub first-words-more : (n : ℕ) (s : List ℕ) (at : ℕ) → firstWords (suc n) s at ≡ pointerOf (nextWord s at) ∷ firstWords n s (nextWord s at .next)
+unfolding firstWords
+first-words-more n s at = refl
+
 -- word k, which is empty on both sides where there is none
 pub word-no : (n : ℕ) (s : List ℕ) (at k : ℕ) (d : StrPtr) → k < n → textOf s (word n s at k d) ≡ getD (words (drop at s)) k []
 unfolding firstWords
@@ -193,6 +203,9 @@ word-some (suc n) s at (suc k) d h =
         ≡ ltb (suc k) (length (cond t (textOf s (pointerOf (nextWord s at)) ∷ words (drop (nextWord s at .next) s)) []))
     go true e = ltb-suc k (length (words (drop (nextWord s at .next) s)))
     go false e = rw (word-none s at e) (le-ltb k 0 (omega arith) ∙ sym (le-ltb (suc k) 0 (omega arith)))
+
+pub names-words : NamesWords
+names-words n s k d h = (word-no n s 0 k d h, word-some n s 0 k d h)
 
 pub words-good : (n : ℕ) (s : List ℕ) (at k : ℕ) (d : StrPtr) → at ≤ length s → k < n → goodIn (length s) (word n s at k d) ≡ true
 unfolding firstWords

@@ -1,4 +1,5 @@
--- Where words and lines end: 01, "Cue lines and labels". A word ends before a blank (32), a line before byte 10. Assumes nothing.
+-- Where words and lines end: 01, "Cue lines and labels". A word ends before a blank (32), a line before byte 10.
+-- Assumes nothing.
 use Prim.Native.Nat.{ℕ, suc, _+_}
 use mathlib.Core.Bool.{cond}
 use mathlib.Core.List.{List, [], _∷_}

@@ -1,15 +1,17 @@
 -- Words, parted by one or more blanks, with outer blanks allowed: 01, "Cue lines and labels". Assumes nothing.
-use Prim.Native.Nat.{ℕ, zero, suc, _-_}
+use Prim.Native.Nat.{ℕ, zero, suc, _-_, _<_}
+use mathlib.Core.Path.{_≡_}
 use mathlib.Core.Bool.{Bool, true, false, cond, not, _&&_, _||_}
 use mathlib.Core.List.{List, [], _∷_, _++_}
-use lib.Dec.{eqb}
-use Rattle.strlib.specs.Pointer.{pointer}
+use lib.Dec.{eqb, ltb}
+use lib.ListN.{length, getD}
+use Rattle.strlib.specs.Pointer.{pointer, textOf}
 use Rattle.strlib.specs.declared.StrPtr.{StrPtr}
 use Rattle.words.specs.Ends.{upTo, blanksEnd, endOf}
 use Rattle.words.specs.declared.Piece.{Piece}
 
--- the words that begin in a text: a word begins at a byte that is no blank (32) and comes first or behind a blank, and holds the bytes
--- before the next blank. The flag says that the byte before the text is in a word.
+-- the words that begin in a text: a word begins at a byte that is no blank (32) and comes first or behind a blank, and
+-- holds the bytes before the next blank. The flag says that the byte before the text is in a word.
 unfoldable pub wordsIn : Bool → List ℕ → List (List ℕ)
 wordsIn inside [] = []
 wordsIn inside (c ∷ cs) = cond (inside || eqb c 32) [] ((c ∷ upTo 32 cs) ∷ []) ++ wordsIn (not (eqb c 32)) cs
@@ -38,3 +40,11 @@ nextWord s at = record { from = blanksEnd s at; to = endOf 32 s (blanksEnd s at)
 unfoldable pub firstWords : ℕ → List ℕ → ℕ → List StrPtr
 firstWords zero s at = []
 firstWords (suc n) s at = pointerOf (nextWord s at) ∷ firstWords n s (nextWord s at .next)
+
+-- they are the words of the text: string k, counted from 0, names word k, and is empty exactly where there is none (`d`
+-- stands for no string)
+abbrev pub NamesWords : Type 0
+NamesWords =
+    (n : ℕ) (s : List ℕ) (k : ℕ) (d : StrPtr)
+    → k < n
+    → (textOf s (getD (firstWords n s 0) k d) ≡ getD (words s) k []) × (ltb 0 (getD (firstWords n s 0) k d .length) ≡ ltb k (length (words s)))

@@ -1,4 +1,5 @@
-// Words parted by blanks and lines ended by byte 10, in a plain text. Each function takes any place, also one past the text's end.
+// Words parted by blanks and lines ended by byte 10, in a plain text. Each function takes any place, also one past the
+// text's end.
 ghost use mathlib.Core.Path.{_≡_};
 ghost use Rattle.words.specs.Lines.{nextLine};
 ghost use Rattle.words.specs.Words.{same, pointerOf, nextWord};

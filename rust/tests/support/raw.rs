@@ -1,4 +1,5 @@
-//! Answers as the C interface gives them: a refusal leaves every other field 0, nothing found too.
+//! Answers as the C interface gives them: a refusal leaves every other field 0, and so does nothing found, but for the
+//! number that a run read.
 
 use strlib::ffi::*;
 use strlib::{

@@ -10,7 +10,8 @@ use Rattle.compare.proofs.Table.{every-at, every, beq-eq}
 use Rattle.compare.proofs.mark.Statement.{statement}
 use Rattle.compare.proofs.mark.Tie as tie
 
--- the meaning's own marks, for each code those of less, equal and greater: antt computes them, and the code's table with them
+-- the meaning's own marks, for each code those of less, equal and greater: antt computes them, and the code's table
+-- with them
 marks : List (List Bool)
 marks = map (λ code. map (holds code) (0 ∷ 1 ∷ 2 ∷ [])) (0 ∷ 1 ∷ 2 ∷ 3 ∷ 4 ∷ 5 ∷ [])
 

@@ -53,7 +53,7 @@ pub fn label_name(list: &[u8], kind: u8, number: usize) -> &[u8]
 {
     let found = find_label(list, kind, number);
     match found {
-        LabelPlace::Found { place, length } => cutting::counted_part(list, place + 1, length),
+        LabelPlace::Found { place, length: n } => cutting::counted_part(list, place + 1, n),
         LabelPlace::Missing => cutting::counted_part(list, 1, 0),
         LabelPlace::Refused(_) => cutting::counted_part(list, 1, 0),
     }

@@ -1,7 +1,7 @@
 use Prim.Native.Nat.{_≤_}
 use mathlib.Core.Path.{_≡_}
 use lib.ListN.{length}
-use Rattle.states.specs.State.{before}
+use Rattle.states.specs.State.{totalTo}
 use Rattle.states.specs.Fill.{Children}
 use Rattle.translator.specs.Translate.{listed}
 use Rattle.translator.proofs.Children.{children-laws}
@@ -9,7 +9,7 @@ use Rattle.translator.proofs.put_children.Statement.{statement}
 use Rattle.translator.proofs.put_children.Tie as tie
 
 abbrev Inv-loop : tie.InvT-loop
-Inv-loop store m u alike base table₀ list l at₀ k₀ table at k = (length list ≡ 32) × (k ≤ m) × (at ≡ before (listed store list m) k) × (length table ≡ length table₀) × Children table₀ table base u (listed store list m) k
+Inv-loop store m u alike base table₀ list l at₀ k₀ table at k = (length list ≡ 32) × (k ≤ m) × (at ≡ totalTo (listed store list m) k) × (length table ≡ length table₀) × Children table₀ table base u (listed store list m) k
 
 abbrev μ-loop : tie.MeasureT-loop
 μ-loop store m u alike base table₀ list l at₀ k₀ table at k = k

@@ -1,4 +1,4 @@
-use Rattle.strlib.specs.Pointer.{pointer, partAt}
+use Rattle.strlib.specs.Pointer.{pointer}
 use Rattle.strlib.proofs.StrPtr.part.Statement.{statement}
 use Rattle.strlib.proofs.StrPtr.part.Tie as tie
 

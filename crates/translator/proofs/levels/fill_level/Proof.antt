@@ -4,7 +4,7 @@ use native.Mathlib.Omega.{arith}
 use lib.ListN.{length, length-set}
 use borrow.Author.Needs.{needs}
 use Rattle.states.proofs.Levelling.{kept-none}
-use Rattle.states.specs.State.{total, before}
+use Rattle.states.specs.State.{total, totalTo}
 use Rattle.states.specs.Fill.{Levels, Kept}
 use Rattle.translator.specs.Translate.{listed}
 use Rattle.translator.proofs.Common.{alike-to}
@@ -15,7 +15,7 @@ use Rattle.translator.proofs.levels.fill_level.Tie as tie
 abbrev Inv-loop : tie.InvT-loop
 Inv-loop store count alike l table₀ fails₀ list j₀ off₀ table fails j off =
     (length list ≡ 32) × (length fails ≡ 32) × (length table ≡ length table₀)
-    × (j ≤ count) × (off ≡ before (listed store list count) j) × Levels (listed store list count) table fails l j × Kept table₀ table (1 + 130 * (total (listed store list count) + 2))
+    × (j ≤ count) × (off ≡ totalTo (listed store list count) j) × Levels (listed store list count) table fails l j × Kept table₀ table (1 + 130 * (total (listed store list count) + 2))
 
 abbrev μ-loop : tie.MeasureT-loop
 μ-loop store count alike l table₀ fails₀ list j₀ off₀ table fails j off = count - j

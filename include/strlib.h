@@ -1,6 +1,6 @@
 /* Pathferrous: the calls of the string library and of the desk, for C.
  *
- * Every call takes any bytes, pointers and numbers and checks them itself. A refusal gives its number (README.md has
+ * Every call takes any bytes, string pointers and numbers and checks them itself. A refusal gives its number (README.md has
  * the table), 0 being none, and changes nothing that was lent. On a refusal all other fields of the answer are 0, down
  * to those of a pointer or place in it, but for what strlib_burst's answer carries: that is what was given (see
  * strlib_burst_answer). Nothing found is no refusal; then too all fields are 0, `found` with them, but for the number
@@ -127,9 +127,10 @@ strlib_part strlib_trimmed_part(const uint8_t *bytes, size_t bytes_length);
  * blanks or empty. */
 strlib_label strlib_desk_label(const uint8_t *production, size_t production_length, const uint8_t *house, size_t house_length);
 
-/* ---- copying: refusals 3, 1, 2, 5; join_from 3, 1, 2, 4, 5 The destination then holds the characters cut at its
- * maximum; every byte past its new length stays. With `pad`, blanks fill a result that is shorter than the old length
- * up to it. */
+/* ---- copying: refusals 3, 1, 2, 5; join_from 3, 1, 2, 4, 5
+ *
+ * The destination then holds the characters cut at its maximum; every byte past its new length stays. With `pad`,
+ * blanks fill a result that is shorter than the old length up to it. */
 
 strlib_copied strlib_copy(uint8_t *store, size_t store_length, strlib_ptr destination, strlib_ptr source, bool pad);
 strlib_copied strlib_append(uint8_t *store, size_t store_length, strlib_ptr destination, strlib_ptr source);
@@ -152,13 +153,15 @@ strlib_split strlib_search_match_after(const uint8_t *store, size_t store_length
 strlib_split strlib_search_before_match(const uint8_t *store, size_t store_length, strlib_ptr host, strlib_list list);
 
 /* ---- the search table: translate once (refusals 3, 1, 2, 9), run over any number of hosts (3, 1, 2, 10), also in
- * bursts (3, 2, 10) Translated, the table is its first 1 + 130 * S words, S being the first of them, 2 to 242; the
- * words behind them stay. */
+ * bursts (3, 2, 10)
+ *
+ * Translated, the table is its first 1 + 130 * S words, S being the first of them, 2 to 242; the words behind them
+ * stay. */
 
 uint8_t strlib_translate(const uint8_t *store, size_t store_length, strlib_list list, uint16_t *table, size_t table_length);
 strlib_note strlib_run(const uint8_t *store, size_t store_length, strlib_ptr host, const uint16_t *table, size_t table_length);
 
-/* A host in bursts of 0 to 300 characters, 65,536 in all: from a fresh run, if none is refused and all are given the
+/* A host in bursts of 0 to 300 characters, at most 65,536 in all: from a fresh run, if none is refused and all are given the
  * same table words, the answer with the last burst, which may be empty, is the whole host's, however it was cut. A run
  * that has not stopped enters its carried state anew at each burst. Refusals, of a run that has stopped too: 3 (the
  * burst's length; the total with it), 2, 10 (the table's size), 10 (what is carried: a state that the table has not,

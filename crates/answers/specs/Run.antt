@@ -1,5 +1,5 @@
--- A run of the program: what its calls promise, turn by turn, and what the run writes. A turn is a read and a write.
--- Assumes nothing.
+-- A run of the program: what its calls promise, turn by turn, and what the run writes: 01, "Cue lines and labels". A turn
+-- is a read and a write. Assumes nothing.
 use Prim.Native.Nat.{ℕ, zero, suc, _+_, _*_, _≤_, min}
 use mathlib.Core.Path.{_≡_}
 use mathlib.Core.Bool.{Bool, true, false, cond, _&&_}

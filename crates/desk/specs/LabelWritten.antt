@@ -1,4 +1,4 @@
--- What the writer, the reader and the lookup say of one another. Assumes nothing.
+-- What the writer, the reader and the lookup say of one another: 01, "Cue lines and labels". Assumes nothing.
 use Prim.Native.Nat.{ℕ, suc, _+_}
 use mathlib.Core.Path.{_≡_}
 use mathlib.Core.List.{List}

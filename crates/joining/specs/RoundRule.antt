@@ -1,8 +1,9 @@
 -- The place rule and the round rule of the checkpointed join: 01, "Copying", second paragraph. Each claim is one type.
 -- 01's sentence on the next place is `PlaceRules`, that on m = 0 `NothingMoves`, that on rounds `ChainRules`: any calls
 -- from (1, 1) on of which none is refused, however stores and destinations change in between, as long as the sources
--- and m stay. `AgainRules` is the case of one destination, called again on the store that the call before left: there
--- it is enough that the first call is not refused. `RoundRules` is the same rule on the definitions. Assumes nothing.
+-- and m stay. `AgainRules` is the case of one destination, called again on the store that the call before left: there it
+-- is enough that the first call is not refused. `AnyLength` says that a destination's length plays no part, `RoundRules`
+-- is the round rule on the definitions. Assumes nothing.
 use Prim.Native.Nat.{ℕ, zero, suc, _+_, _-_, _/_, _≤_, _<_, max}
 use mathlib.Core.Path.{_≡_}
 use mathlib.Core.Bool.{true, false}
@@ -139,8 +140,8 @@ storeAfter s destination list count zero = s
 storeAfter s destination list count (suc n) =
     joinFromRule (storeAfter s destination list count n) destination list count (placeAfter (texts s (take count list)) (destination .maximum) n) .1
 
--- no later call is refused, whichever length its pointer has, as that which the call before gave; and the round rule
--- holds of the calls
+-- no later call is refused, whatever length up to the maximum its pointer has, so also with the pointer that the call
+-- before gave; and the round rule holds of the calls
 pub record AgainRule (s : List ℕ) (destination : StrPtr) (list : List StrPtr) (count : ℕ) : Type 0 where
   pub given : (n k : ℕ) → k ≤ destination .maximum
       → joinFromRule (storeAfter s destination list count n) (sized destination k) list count (placeAfter (texts s (take count list)) (destination .maximum) n)

@@ -23,11 +23,11 @@ numberAnswered (Refused n) = refused n
 
 -- ---- reading
 
--- the checks of a reading, in their order: those that are made before its text is looked at, then those of the text
+-- the checks of a reading, in their order: those before the question whether the text is a number, then those of the text
 abbrev pub beforeText : List ℕ → StrPtr → ℕ → List (ℕ × Bool)
 beforeText s p base = (3, storeFits s) ∷ (3, isBase base) ∷ (1, goodIn (length s) p) ∷ (2, readable s p) ∷ []
 
--- of a text, whether it is a number, and the number that it says
+-- the checks of a text, given whether it is a number, and which: 7, then 8
 abbrev pub ofValue : Bool → ℤ → List (ℕ × Bool)
 ofValue formed z = (7, formed) ∷ (8, inRange z) ∷ []
 

@@ -1,5 +1,5 @@
--- Demand 3: what the translator and the run do together. The claim is the last definition, `Demand3`; proofs/Demand3
--- proves it. Assumes nothing.
+-- Demand 3: what the translator and the run do together: 01, "The search table". The claim is the last definition,
+-- `Demand3`; proofs/Demand3 proves it. Assumes nothing.
 use Prim.Native.Nat.{ℕ, _≤_}
 use mathlib.Core.Path.{_≡_}
 use mathlib.Core.Bool.{true}
@@ -23,7 +23,7 @@ pub record Listed (s : List ℕ) (list : List StrPtr) (count : ℕ) : Type 0 whe
   pub small : total (listed s list count) ≤ 240
 
 -- what a run over the words gives of one host: it does not refuse; the string, start and end of its last note are the
--- plain search's; and in the words of 01, "Searching": the smallest position, then the smallest string, and nothing
+-- plain search's; and in the words of 01, "Searching": the smallest position, then the smallest number, and nothing
 -- found exactly where no listed string occurs
 pub record Found (ss : List (List ℕ)) (words s : List ℕ) (host : StrPtr) : Type 0 where
   pub read : ℕ
@@ -38,8 +38,8 @@ pub record Serves (s : List ℕ) (list : List StrPtr) (count : ℕ) (answer : Ou
   pub done : answer ≡ gives tt
   pub hosts : (t : List ℕ) (host : StrPtr) → Host t host → Found (listed s list count) new t host
 
--- any list within the limits, in any store; any room of at least 31,461 words, whatever it held; whatever the call
--- answered and left
+-- any list within the limits, in any store; any room of at least 31,461 words, whatever it held; whatever answer and
+-- words the call leaves, of which `Translated`, its promise, holds
 abbrev pub Demand3 : Type 0
 Demand3 =
     (s : List ℕ) (list : List StrPtr) (count : ℕ) (old : List ℕ)

@@ -204,11 +204,11 @@ word-some (suc n) s at (suc k) d h =
     go true e = ltb-suc k (length (words (drop (nextWord s at .next) s)))
     go false e = rw (word-none s at e) (le-ltb k 0 (omega arith) ∙ sym (le-ltb (suc k) 0 (omega arith)))
 
-pub names-words : NamesWords
-names-words n s k d h = (word-no n s 0 k d h, word-some n s 0 k d h)
-
 pub words-good : (n : ℕ) (s : List ℕ) (at k : ℕ) (d : StrPtr) → at ≤ length s → k < n → goodIn (length s) (word n s at k d) ≡ true
 unfolding firstWords
 words-good zero s at k d l h = absurd (omega arith)
 words-good (suc n) s at zero d l h = word-good s at l
 words-good (suc n) s at (suc k) d l h = words-good n s (nextWord s at .next) k d (word-in s at l) (omega arith)
+
+pub names-words : NamesWords
+names-words n s k d h = record { good = words-good n s 0 k d (omega arith) h; text = word-no n s 0 k d h; some = word-some n s 0 k d h }

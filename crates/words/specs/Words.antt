@@ -5,7 +5,7 @@ use mathlib.Core.Bool.{Bool, true, false, cond, not, _&&_, _||_}
 use mathlib.Core.List.{List, [], _∷_, _++_}
 use lib.Dec.{eqb, ltb}
 use lib.ListN.{length, getD}
-use Rattle.strlib.specs.Pointer.{pointer, textOf}
+use Rattle.strlib.specs.Pointer.{pointer, goodIn, textOf}
 use Rattle.strlib.specs.declared.StrPtr.{StrPtr}
 use Rattle.words.specs.Ends.{upTo, blanksEnd, endOf}
 use Rattle.words.specs.declared.Piece.{Piece}
@@ -41,10 +41,12 @@ unfoldable pub firstWords : ℕ → List ℕ → ℕ → List StrPtr
 firstWords zero s at = []
 firstWords (suc n) s at = pointerOf (nextWord s at) ∷ firstWords n s (nextWord s at .next)
 
--- they are the words of the text: string k, counted from 0, names word k, and is empty exactly where there is none (`d`
--- stands for no string)
+-- the string p of the text s names word k, counted from 0: it is good, and empty exactly where there is no such word
+pub record NamesWord (s : List ℕ) (k : ℕ) (p : StrPtr) : Type 0 where
+  pub good : goodIn (length s) p ≡ true
+  pub text : textOf s p ≡ getD (words s) k []
+  pub some : ltb 0 (p .length) ≡ ltb k (length (words s))
+
+-- the first n words by their places are the words of the text (`d`, what `getD` gives past the end, is never reached)
 abbrev pub NamesWords : Type 0
-NamesWords =
-    (n : ℕ) (s : List ℕ) (k : ℕ) (d : StrPtr)
-    → k < n
-    → (textOf s (getD (firstWords n s 0) k d) ≡ getD (words s) k []) × (ltb 0 (getD (firstWords n s 0) k d .length) ≡ ltb k (length (words s)))
+NamesWords = (n : ℕ) (s : List ℕ) (k : ℕ) (d : StrPtr) → k < n → NamesWord s k (getD (firstWords n s 0) k d)

@@ -8,9 +8,10 @@ use lib.Dec.{leb}
 use lib.ListN.{length, take, getD, set, length-take, length-set, replicate, getD-replicate}
 use lib.Seq.{getD-set-same, getD-set-other}
 use borrow.Author.Needs.{needs}
-use borrow.Author.Tests.{le-leb, lt-leb, leb-true}
+use borrow.Author.Tests.{leb-true}
 use Rattle.strlib.proofs.Pointing.{fits-is}
-use Rattle.strlib.proofs.Refusing.{first-is, first-before, first-behind, Passed, passed, outcome-no, outcome-yes}
+use Rattle.strlib.proofs.Checking.{first-both}
+use Rattle.strlib.proofs.Refusing.{first-is, first-before, first-behind, passed, outcome-no, outcome-yes}
 use Rattle.strlib.proofs.Texts.{texts-long, texts-readable}
 use Rattle.strlib.specs.Pointer.{storeFits, goodIn, textOf, all, characters, readable}
 use Rattle.strlib.specs.Refusal.{refused, gives, first, also}
@@ -25,7 +26,7 @@ use Rattle.states.specs.State.{total, Represents}
 use Rattle.states.specs.Sure.{Sure}
 use Rattle.states.specs.Fill.{Rowed, Levels, Kept}
 use Rattle.translator.proofs.Rows.{ready-same}
-use Rattle.translator.specs.Translate.{listed, sourceChecks, sizeChecks, translateChecks, translateRefusal, Host, noteIn, Table, Words, Translated}
+use Rattle.translator.specs.Translate.{listed, sourceChecks, sizeChecks, translateRefusal, Host, noteIn, Table, Words, Translated}
 use Rattle.translator.specs.Inner.{Ready, Rows, sourceRefusal}
 
 -- ---- the refusals
@@ -42,9 +43,12 @@ pub ruleset list-laws = (needs, list-checked)
 record SourcePassed (s : List ℕ) (list : List StrPtr) (count : ℕ) : Type 0 where
   pub small : length s ≤ 65536
   pub few : count ≤ 32
+  pub plain : all (readable s) (take count list) ≡ true
 
 source-passed : (s : List ℕ) (list : List StrPtr) (count : ℕ) → first (sourceChecks s list count) ≡ 0 → SourcePassed s list count
-source-passed s list count e = let ok = passed (sourceChecks s list count) refl e in record { small = fits-is s (ok .0); few = leb-true _ _ (ok .1 .0) }
+source-passed s list count e =
+    let ok = passed (sourceChecks s list count) refl e in
+    record { small = fits-is s (ok .0); few = leb-true _ _ (ok .1 .0); plain = ok .1 .1 .1 .0 }
 
 module _ (s : List ℕ) (list : List StrPtr) (count words : ℕ) where
   module _ (k : ℕ) (e : k ≡ sourceRefusal s list count) where
@@ -65,29 +69,25 @@ module _ (s : List ℕ) (list : List StrPtr) (count words : ℕ) where
       unfolding sourceRefusal
       list-room = source-passed s list count (sym e ∙ z) .small
 
-      module _ (n : ℕ) (en : n ≡ total (listed s list count)) where
-        pub size-over : 240 < n → 9 ≡ translateRefusal s list count words
-        size-over h = sym (behind ∙ rw (← en, lt-leb n 240 h))
+      pub size-checked : (n found₁ : ℕ) → n ≡ total (listed s list count) → found₁ ≡ also 0 9 (leb n 240)
+          → (found₂ : ℕ) → found₂ ≡ also found₁ 9 (leb 31461 words) → found₂ ≡ translateRefusal s list count words
+      size-checked n found₁ en e₁ found₂ e₂ = first-is (sizeChecks s list count words) refl found₂ (rw (e₂, e₁, en)) ∙ sym behind
 
-        pub size-words : n ≤ 240 → words < 31461 → 9 ≡ translateRefusal s list count words
-        size-words h w = sym (behind ∙ rw (← en, le-leb n 240 h, lt-leb 31461 words w))
-
-        pub size-fits : n ≤ 240 → 31461 ≤ words → 0 ≡ translateRefusal s list count words
-        size-fits h w = sym (behind ∙ rw (← en, le-leb n 240 h, le-leb 31461 words w))
-
-pub ruleset refusal-laws = (needs, list-refused, list-few, list-room, size-over, size-words, size-fits)
+pub ruleset refusal-laws = (needs, list-refused, list-few, list-room, size-checked)
 
 -- what was checked where nothing is refused
 pub ready-of : (s : List ℕ) (list : List StrPtr) (count : ℕ) (ws : List ℕ) → translateRefusal s list count (length ws) ≡ 0 → Ready s list count ws
 unfolding translateRefusal
 ready-of s list count ws z =
-    let ok : Passed (translateChecks s list count (length ws)) = passed (translateChecks s list count (length ws)) refl z in
-    let c : total (listed s list count) ≤ 240 = leb-true _ _ (ok .1 .1 .1 .1 .0) in
-    let d : 31461 ≤ length ws = leb-true _ _ (ok .1 .1 .1 .1 .1 .0) in
+    let b = first-both (sourceChecks s list count) (sizeChecks s list count (length ws)) refl z in
+    let ok = source-passed s list count (b .0) in
+    let own = passed (sizeChecks s list count (length ws)) refl (b .1) in
+    let c : total (listed s list count) ≤ 240 = leb-true _ _ (own .0) in
+    let d : 31461 ≤ length ws = leb-true _ _ (own .1 .0) in
     record {
-      few = leb-true _ _ (ok .1 .0);
-      room = fits-is s (ok .0);
-      plain = sym (texts-readable s (take count list)) ∙ ok .1 .1 .1 .0;
+      few = ok .few;
+      room = ok .small;
+      plain = sym (texts-readable s (take count list)) ∙ ok .plain;
       small = c;
       long = omega arith;
     }

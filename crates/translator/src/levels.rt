@@ -118,10 +118,9 @@ fn translate_refusal(store: &[u8], list: StrList, count: usize, words: usize) ->
     if found != 0 {
         return found;
     }
-    if StrPtr::LIST_CHARACTERS_MAX < super::total_of(store, list, count) {
-        return 9;
-    }
-    if words < StrPtr::TABLE_MIN { 9 } else { 0 }
+    let n = super::total_of(store, list, count);
+    let found = strlib::check(0, 9, n <= StrPtr::LIST_CHARACTERS_MAX);
+    strlib::check(found, 9, StrPtr::TABLE_MIN <= words)
 }
 
 // The table of a list, for any number of hosts.

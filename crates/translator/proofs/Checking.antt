@@ -1,19 +1,19 @@
 -- Laws of the call: its refusals, and the table from the rows. Assumes nothing.
 use mathlib.Core.Path.{_≡_, refl, sym, ap, _∙_}
-use mathlib.Core.Bool.{true}
-use mathlib.Core.List.{List, []}
+use mathlib.Core.Bool.{Bool, true}
+use mathlib.Core.List.{List, [], _∷_}
 use Prim.Native.Nat.{ℕ, zero, suc, _+_, _*_, _≤_, _<_, min}
 use native.Mathlib.Omega.{arith}
 use lib.Dec.{leb}
 use lib.ListN.{length, take, getD, set, length-take, length-set, replicate, getD-replicate}
-use lib.Seq.{getD-set-same, getD-set-other}
+use lib.Seq.{take-take, getD-set-same, getD-set-other}
 use borrow.Author.Needs.{needs}
 use borrow.Author.Tests.{leb-true}
 use Rattle.strlib.proofs.Pointing.{fits-is}
 use Rattle.strlib.proofs.Checking.{first-both}
-use Rattle.strlib.proofs.Refusing.{first-is, first-before, first-behind, passed, outcome-no, outcome-yes}
-use Rattle.strlib.proofs.Texts.{texts-long, texts-readable}
-use Rattle.strlib.specs.Pointer.{storeFits, goodIn, textOf, all, characters, readable}
+use Rattle.strlib.proofs.Refusing.{and-both, first-is, first-before, first-behind, passed, outcome-no, outcome-yes}
+use Rattle.strlib.proofs.Texts.{texts-long, texts-take, texts-readable}
+use Rattle.strlib.specs.Pointer.{storeFits, goodIn, textOf, texts, all, characters, readable}
 use Rattle.strlib.specs.Refusal.{refused, gives, first, also}
 use Rattle.strlib.specs.declared.StrPtr.{StrPtr}
 use Rattle.search.specs.Search.{Result, plainSearch}
@@ -92,6 +92,30 @@ ready-of s list count ws z =
       long = omega arith;
     }
 
+-- and so is every front of the list
+all-take : {A : Type 0} (f : A → Bool) (m : ℕ) (xs : List A) → all f xs ≡ true → all f (take m xs) ≡ true
+unfolding all
+all-take f zero xs e = refl
+all-take f (suc m) [] e = refl
+all-take f (suc m) (x ∷ xs) e = let b = and-both (f x) (all f xs) e in rw (b .0) (all-take f m xs (b .1))
+
+total-take : (m : ℕ) (ss : List (List ℕ)) → total (take m ss) ≤ total ss
+total-take zero ss = omega arith
+total-take (suc m) [] = omega arith
+total-take (suc m) (s ∷ ss) = omega (arith, total-take m ss)
+
+ready-front : (s : List ℕ) (list : List StrPtr) (count m : ℕ) (ws : List ℕ) → m ≤ count → Ready s list count ws → Ready s list m ws
+ready-front s list count m ws h r =
+    let e : take m (listed s list count) ≡ listed s list m = texts-take s (take count list) m ∙ ap (texts s) (take-take m count list h) in
+    let t : total (listed s list m) ≤ total (listed s list count) = rw (← e) (total-take m (listed s list count)) in
+    record {
+      few = omega (arith, r .few);
+      room = r .room;
+      plain = rw (← e) (all-take characters m (listed s list count) (r .plain));
+      small = omega (arith, r .small);
+      long = omega (arith, r .long);
+    }
+
 module _ (s : List ℕ) (list : List StrPtr) (count : ℕ) (ws : List ℕ) (k : ℕ) (e : k ≡ translateRefusal s list count (length ws)) where
   pub translate-refused : (k ≡ 0 → ⊥) → Translated s list count ws (refused k) ws
   unfolding Words
@@ -102,8 +126,8 @@ module _ (s : List ℕ) (list : List StrPtr) (count : ℕ) (ws : List ℕ) (k : 
       go (suc j) y = refl
 
   module _ (z : k ≡ 0) where
-    pub translate-ready : Ready s list count ws
-    translate-ready = ready-of s list count ws (sym e ∙ z)
+    pub translate-ready : (m : ℕ) → m ≤ count → Ready s list m ws
+    translate-ready m h = ready-front s list count m ws h (ready-of s list count ws (sym e ∙ z))
 
     pub translate-done : (ws′ : List ℕ) → Table (listed s list count) ws ws′ → Translated s list count ws (gives tt) ws′
     unfolding Words

@@ -23,7 +23,7 @@ pub enum Compared {
 }
 
 // What decides, whatever the code: the order of the two texts, and the split.
-pub struct Decision {
+struct Decision {
     pub order: usize,
     pub split: usize,
 }

@@ -9,7 +9,7 @@ use mir.Syntax.{w64}
 use mir.Val.{Fits}
 use Rattle.desk.specs.Cue.{cueRule}
 use Rattle.answers.specs.Text.{answerText}
-use Rattle.answers.specs.Program.{counted, goodOf, answersText, goods}
+use Rattle.answers.specs.Pieces.{counted, goodOf, answersText, goods}
 
 pub count-again : (a b t : ℕ) → t ≡ counted a → counted (t + b) ≡ counted (a + b)
 unfolding counted

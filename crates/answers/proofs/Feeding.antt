@@ -28,8 +28,7 @@ use Rattle.buffer.proofs.Growing.{grow-more, grown-none, grown-size, grown-insi
 use Rattle.buffer.specs.Buffer.{grown}
 use Rattle.answers.proofs.Counting.{count-again, count-fixed, answers-counted, answers-append, goods-append}
 use Rattle.answers.specs.Text.{answerText}
-use Rattle.answers.specs.Program.{counted, goodOf, answersText, goods, ended, left}
-use Rattle.answers.specs.Run.{keptIn}
+use Rattle.answers.specs.Pieces.{counted, goodOf, answersText, goods, ended, left, keptIn}
 use Rattle.answers.specs.Inner.{Answered, Ready, endedBy, leftBy, keptBy, Counted, Taken, Walked, Fed}
 use Rattle.answers.specs.declared.lines.State.{State}
 

@@ -20,7 +20,7 @@ use Rattle.desk.specs.declared.cue.CueAnswer.the-variants.{Cue as Given, Refuse
 use Rattle.buffer.proofs.Growing.{grow-more}
 use Rattle.buffer.specs.Buffer.{grown, valueText}
 use Rattle.answers.specs.Text.{end, okText, cueText, totalText}
-use Rattle.answers.specs.Program.{counted, goodOf}
+use Rattle.answers.specs.Pieces.{counted, goodOf}
 use Rattle.answers.specs.Inner.{writable}
 
 -- ---- an answer

@@ -1,5 +1,5 @@
 -- What the functions inside the crate promise one another. Assumes nothing.
-use Prim.Native.Nat.{ℕ, _+_, _≤_, min}
+use Prim.Native.Nat.{ℕ, _+_, _≤_}
 use mathlib.Core.Path.{_≡_}
 use mathlib.Core.Bool.{Bool, true, cond}
 use mathlib.Core.List.{List, [], _∷_, _++_}
@@ -10,8 +10,7 @@ use Rattle.strlib.specs.Refusal.{Outcome, refused, gives}
 use Rattle.desk.specs.declared.cue.Cue.{Cue}
 use Rattle.buffer.specs.Buffer.{grown}
 use Rattle.answers.specs.Text.{answerText}
-use Rattle.answers.specs.Program.{counted, goodOf, goods, answersText, ended, left}
-use Rattle.answers.specs.Run.{keptIn}
+use Rattle.answers.specs.Pieces.{counted, goodOf, goods, answersText, ended, left, keptIn}
 use Rattle.answers.specs.declared.lines.State.{State}
 
 -- a gain that can be written
@@ -67,7 +66,3 @@ pub record Walked (s : State) (h o part : List ℕ) (at : ℕ) (r : State) (h′
 pub record Fed (s : State) (h o part : List ℕ) (r : State) (h′ o′ : List ℕ) : Type 0 where
   pub counts : Counted s o (ended (take (s .held) h) part) r o′
   pub kept : (r .held, h′) ≡ keptIn (s .held) h [] part
-
--- a state with its buffer of answers empty, and no more held than there is
-unfoldable pub anew : State → ℕ → State
-anew s n = record { lines = s .lines; ok = s .ok; held = min (s .held) n; out = 0 }

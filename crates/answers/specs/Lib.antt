@@ -1,5 +1,3 @@
 pub mod Text
-pub mod Program
-pub mod Run
+pub mod Pieces
 pub mod Inner
-pub mod Examples

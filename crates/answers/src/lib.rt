@@ -1,14 +1,11 @@
-// The answers to cue lines that come in pieces: the program without its reading and writing.
+// The answers to cue lines, and to an input that comes in pieces.
 mod lines;
 mod pieces;
-mod turns;
 
 pub use lines::State;
+pub use pieces::feed;
+pub use pieces::finish;
 use strlib::StrPtr;
-pub use turns::Run;
-pub use turns::after_read;
-pub use turns::after_write;
-pub use turns::begin;
 
 // Bytes that are held of a line: one more than a store may have, which is enough to refuse it with 3.
 pub const HOLD: usize = StrPtr::STORE_MAX + 1;

@@ -8,7 +8,7 @@ ghost use Rattle.number.specs.Limits.{inRange};
 ghost use Rattle.desk.specs.Cue.{cueAnswered, cueRule};
 ghost use Rattle.buffer.specs.Buffer.{grown};
 ghost use Rattle.answers.specs.Text.{okText, cueText, answerText, totalText};
-ghost use Rattle.answers.specs.Program.{counted, goodOf};
+ghost use Rattle.answers.specs.Pieces.{counted, goodOf};
 ghost use Rattle.answers.specs.Inner.{writable, Answered};
 
 // How many lines were answered and how many of them are good, how many bytes of an unended line are held, and how many

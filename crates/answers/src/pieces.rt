@@ -3,10 +3,10 @@ use super::lines;
 use lines::State;
 use strlib::StrPtr;
 ghost use mathlib.Core.Path.{_≡_};
-ghost use lib.ListN.{length, take};
+ghost use lib.ListN.{take};
 ghost use Rattle.buffer.specs.Buffer.{grown};
-ghost use Rattle.answers.specs.Program.{endText};
-ghost use Rattle.answers.specs.Inner.{Ready, Taken, Fed, anew};
+ghost use Rattle.answers.specs.Pieces.{endText, fedBy};
+ghost use Rattle.answers.specs.Inner.{Ready, Taken, Fed};
 
 // Takes a line, or the start of one. A line is held up to 65,537 bytes, which is enough to refuse it.
 fn take_line(part: &[u8], full: bool, hold: &mut [u8], out: &mut [u8], s: State) -> State
@@ -46,7 +46,7 @@ fn walk(part: &[u8], hold: &mut [u8], out: &mut [u8], s: State) -> State
 
 // Answers the lines that end in a piece of the input, and holds what is left of it.
 pub fn feed(part: &[u8], hold: &mut [u8; super::HOLD], out: &mut [u8], s: State) -> State
-    ensures { λ r. ⌜ Fed (anew s (length (now (hold .entry)))) (now (hold .entry)) (now (out .entry)) (now (part .entry)) r (now (hold .exit)) (now (out .exit)) ⌝ }
+    ensures { λ r. ⌜ (r, (now (hold .exit), now (out .exit))) ≡ fedBy (now (part .entry)) s (now (hold .entry)) (now (out .entry)) ⌝ }
 {
     let t = State {
         lines: s.lines,

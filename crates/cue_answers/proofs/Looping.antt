@@ -14,9 +14,10 @@ use Rattle.strlib.specs.declared.StrPtr.{StrPtr}
 use Rattle.endings.specs.Ending.{isGoing}
 use Rattle.endings.specs.declared.Ending.{Ending}
 use Rattle.endings.specs.declared.Ending.the-variants.{Unopened}
-use Rattle.answers.proofs.Running.{begun-size, run-writes}
-use Rattle.answers.specs.Run.{Stage, stage, afterRead, wrote, begun, Event, turned, ran, answerRoom, Roomy}
-use Rattle.answers.specs.declared.turns.Run.{Run}
+use Rattle.program.proofs.Running.{begun-size, run-writes}
+use Rattle.turns.specs.Turn.{Stage, stage, afterRead, wrote, begun}
+use Rattle.program.specs.Run.{Event, turned, ran, answerRoom, Roomy}
+use Rattle.turns.specs.declared.Run.{Run}
 use Rattle.cue_answers.specs.Loop.{Room, Tried, from, Possible, Turned, Going, TurnsMade, AllTurns, Answering, OfFile}
 
 -- ---- a write and a turn

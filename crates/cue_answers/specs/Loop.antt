@@ -11,8 +11,9 @@ use Rattle.libc.specs.Io.{Moved}
 use Rattle.endings.specs.Ending.{isGoing}
 use Rattle.endings.specs.declared.Ending.{Ending}
 use Rattle.endings.specs.declared.Ending.the-variants.{Unopened}
-use Rattle.answers.specs.Run.{Stage, stage, wrote, begun, Event, reading, turned, ran, answerRoom, endRoom, Roomy, Writes}
-use Rattle.answers.specs.declared.turns.Run.{Run}
+use Rattle.turns.specs.Turn.{Stage, stage, wrote, begun}
+use Rattle.program.specs.Run.{Event, reading, turned, ran, answerRoom, endRoom, Roomy, Writes}
+use Rattle.turns.specs.declared.Run.{Run}
 
 -- a piece that something can be read into, and room for the answers to it, and for the end
 pub record Room (piece out : List ℕ) : Type 0 where

@@ -1,9 +1,9 @@
 // Reads cue lines for a matrix of 64 by 128 from a file or from standard input, and writes an answer to each, and the
 // total.
-use answers::Run;
 use endings::Ending;
 use endings::Source;
 use strlib::StrPtr;
+use turns::Run;
 ghost use lib.ListN.{length};
 ghost use Rattle.cue_answers.specs.Loop.{Room, Tried, Turned, AllTurns, Answering, OfFile};
 
@@ -19,7 +19,7 @@ fn write_told(out: &[u8], run: Run) -> Run
 {
     let state = run.state;
     let done = desk_io::write(1, strlib::text(out, StrPtr::full(0, state.out)));
-    answers::after_write(done, run)
+    turns::after_write(done, run)
 }
 
 // Reads once, and writes the answers.
@@ -28,7 +28,7 @@ fn turn(fd: i32, piece: &mut [u8], hold: &mut [u8; answers::HOLD], out: &mut [u8
     ensures { λ r. ⌜ Turned run (now (piece .exit)) (now (hold .entry)) (now (out .entry)) r (now (hold .exit)) (now (out .exit)) ⌝ }
 {
     let got = desk_io::read(fd, piece);
-    let t = answers::after_read(got, piece, hold, out, run);
+    let t = turns::after_read(got, piece, hold, out, run);
     write_told(out, t)
 }
 
@@ -63,7 +63,7 @@ fn answer_all(fd: i32, out: &mut [u8; OUT]) -> Ending
 {
     let mut piece = [0u8; PIECE];
     let mut hold = [0u8; answers::HOLD];
-    let run = answers::begin(out);
+    let run = turns::begin(out);
     let run = write_told(out, run);
     let run = all_turns(fd, &mut piece, &mut hold, out, run);
     run.ending

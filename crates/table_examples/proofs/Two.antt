@@ -15,7 +15,8 @@ use Rattle.search.specs.Search.{plainSearch}
 use Rattle.table.proofs.Running.{host-passed}
 use Rattle.table.specs.Run.{isSized, runOver, ranOf, hostChecks, metChecks, runRefusal, runRule, ranAnswered}
 use Rattle.table.specs.declared.RunAnswer.{RunAnswer}
-use Rattle.translator.specs.Translate.{listed, translateRefusal, translateAnswered, noteIn, Table, Words, Translated}
+use Rattle.preparing.specs.Listed.{listed, translateRefusal}
+use Rattle.translator.specs.Translate.{translateAnswered, noteIn, Table, Words, Translated}
 use Rattle.translator.specs.declared.TranslateAnswer.{TranslateAnswer}
 use Rattle.translator.specs.declared.TranslateAnswer.the-variants.{Done, Refused}
 use Rattle.table_examples.specs.Two.{hostRefusal, hostRule, SearchedTwo}

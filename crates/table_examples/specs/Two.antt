@@ -9,7 +9,8 @@ use Rattle.strlib.specs.Refusal.{Outcome, refused, gives, first, outcome}
 use Rattle.strlib.specs.declared.StrPtr.{StrPtr}
 use Rattle.search.specs.Search.{Result, plainSearch}
 use Rattle.table.specs.Run.{hostChecks, ranAnswered}
-use Rattle.translator.specs.Translate.{listed, translateRefusal, noteIn, Words}
+use Rattle.preparing.specs.Listed.{listed, translateRefusal}
+use Rattle.translator.specs.Translate.{noteIn, Words}
 use Rattle.table_examples.specs.declared.TwoAnswer.{TwoAnswer}
 use Rattle.table_examples.specs.declared.TwoAnswer.the-variants.{Ran, Refused}
 

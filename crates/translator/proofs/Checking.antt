@@ -1,20 +1,17 @@
--- Laws of the call: its refusals, and the table from the rows. Assumes nothing.
+-- Laws of the call: what was checked, and the table from the rows. Assumes nothing.
 use mathlib.Core.Path.{_≡_, refl, sym, ap, _∙_}
-use mathlib.Core.Bool.{Bool, true}
-use mathlib.Core.List.{List, [], _∷_}
+use mathlib.Core.Bool.{true}
+use mathlib.Core.List.{List, []}
 use Prim.Native.Nat.{ℕ, zero, suc, _+_, _*_, _≤_, _<_, min}
 use native.Mathlib.Omega.{arith}
-use lib.Dec.{leb}
 use lib.ListN.{length, take, getD, set, length-take, length-set, replicate, getD-replicate}
 use lib.Seq.{take-take, getD-set-same, getD-set-other}
 use borrow.Author.Needs.{needs}
-use borrow.Author.Tests.{leb-true}
-use Rattle.strlib.proofs.Pointing.{fits-is}
-use Rattle.strlib.proofs.Checking.{first-both}
-use Rattle.strlib.proofs.Refusing.{and-both, first-is, first-before, first-behind, passed, outcome-no, outcome-yes}
-use Rattle.strlib.proofs.Texts.{texts-long, texts-take, texts-readable}
-use Rattle.strlib.specs.Pointer.{storeFits, goodIn, textOf, texts, all, characters, readable}
-use Rattle.strlib.specs.Refusal.{refused, gives, first, also}
+use Rattle.strlib.proofs.Listing.{all-take}
+use Rattle.strlib.proofs.Refusing.{outcome-no, outcome-yes}
+use Rattle.strlib.proofs.Texts.{texts-long, texts-take}
+use Rattle.strlib.specs.Pointer.{textOf, texts, all, characters, readable}
+use Rattle.strlib.specs.Refusal.{refused, gives}
 use Rattle.strlib.specs.declared.StrPtr.{StrPtr}
 use Rattle.search.specs.Search.{Result, plainSearch}
 use Rattle.table.proofs.Running.{is-sized, run-gave, run-plain}
@@ -25,93 +22,28 @@ use Rattle.states.proofs.Searching.{run-ends}
 use Rattle.states.specs.State.{total, Represents}
 use Rattle.states.specs.Sure.{Sure}
 use Rattle.states.specs.Fill.{Rowed, Levels, Kept}
-use Rattle.translator.proofs.Rows.{ready-same}
-use Rattle.translator.specs.Translate.{listed, sourceChecks, sizeChecks, translateRefusal, Host, noteIn, Table, Words, Translated}
-use Rattle.translator.specs.Inner.{Ready, Rows, sourceRefusal}
-
--- ---- the refusals
-
-pub list-checked : (s : List ℕ) (list : List StrPtr) (count found₁ : ℕ) → found₁ ≡ also 0 3 (storeFits s)
-    → (found₂ : ℕ) → found₂ ≡ also found₁ 3 (leb count 32) → (found₃ : ℕ) → found₃ ≡ also found₂ 1 (all (goodIn (length s)) (take count list))
-    → (found₄ : ℕ) → found₄ ≡ also found₃ 2 (all (readable s) (take count list)) → found₄ ≡ sourceRefusal s list count
-unfolding sourceRefusal
-list-checked s list count found₁ e₁ found₂ e₂ found₃ e₃ found₄ e₄ = first-is (sourceChecks s list count) refl found₄ (rw (e₄, e₃, e₂, e₁))
-
-pub ruleset list-laws = (needs, list-checked)
-
--- what is known where they find nothing
-record SourcePassed (s : List ℕ) (list : List StrPtr) (count : ℕ) : Type 0 where
-  pub small : length s ≤ 65536
-  pub few : count ≤ 32
-  pub plain : all (readable s) (take count list) ≡ true
-
-source-passed : (s : List ℕ) (list : List StrPtr) (count : ℕ) → first (sourceChecks s list count) ≡ 0 → SourcePassed s list count
-source-passed s list count e =
-    let ok = passed (sourceChecks s list count) refl e in
-    record { small = fits-is s (ok .0); few = leb-true _ _ (ok .1 .0); plain = ok .1 .1 .1 .0 }
-
-module _ (s : List ℕ) (list : List StrPtr) (count words : ℕ) where
-  module _ (k : ℕ) (e : k ≡ sourceRefusal s list count) where
-    pub list-refused : (k ≡ 0 → ⊥) → k ≡ translateRefusal s list count words
-    unfolding sourceRefusal translateRefusal
-    list-refused h = first-before (sourceChecks s list count) (sizeChecks s list count words) k e h
-
-    module _ (z : k ≡ 0) where
-      behind : translateRefusal s list count words ≡ first (sizeChecks s list count words)
-      unfolding sourceRefusal translateRefusal
-      behind = first-behind (sourceChecks s list count) (sizeChecks s list count words) refl (sym e ∙ z)
-
-      pub list-few : count ≤ 32
-      unfolding sourceRefusal
-      list-few = source-passed s list count (sym e ∙ z) .few
-
-      pub list-room : length s ≤ 65536
-      unfolding sourceRefusal
-      list-room = source-passed s list count (sym e ∙ z) .small
-
-      pub size-checked : (n found₁ : ℕ) → n ≡ total (listed s list count) → found₁ ≡ also 0 9 (leb n 240)
-          → (found₂ : ℕ) → found₂ ≡ also found₁ 9 (leb 31461 words) → found₂ ≡ translateRefusal s list count words
-      size-checked n found₁ en e₁ found₂ e₂ = first-is (sizeChecks s list count words) refl found₂ (rw (e₂, e₁, en)) ∙ sym behind
-
-pub ruleset refusal-laws = (needs, list-refused, list-few, list-room, size-checked)
+use Rattle.preparing.proofs.Checking.{translate-passed}
+use Rattle.preparing.proofs.Listing.{total-is}
+use Rattle.preparing.specs.Listed.{listed, totalOf, translateRefusal}
+use Rattle.translator.proofs.Rows.{ready-same, total-take}
+use Rattle.translator.specs.Translate.{Host, noteIn, Table, Words, Translated}
+use Rattle.translator.specs.Inner.{Ready, Rows}
 
 -- what was checked where nothing is refused
 pub ready-of : (s : List ℕ) (list : List StrPtr) (count : ℕ) (ws : List ℕ) → translateRefusal s list count (length ws) ≡ 0 → Ready s list count ws
-unfolding translateRefusal
 ready-of s list count ws z =
-    let b = first-both (sourceChecks s list count) (sizeChecks s list count (length ws)) refl z in
-    let ok = source-passed s list count (b .0) in
-    let own = passed (sizeChecks s list count (length ws)) refl (b .1) in
-    let c : total (listed s list count) ≤ 240 = leb-true _ _ (own .0) in
-    let d : 31461 ≤ length ws = leb-true _ _ (own .1 .0) in
-    record {
-      few = ok .few;
-      room = ok .small;
-      plain = sym (texts-readable s (take count list)) ∙ ok .plain;
-      small = c;
-      long = omega arith;
-    }
+    let ok = translate-passed s list count (length ws) z in
+    record { few = ok .few; room = ok .room; plain = ok .plain; small = ok .small; long = omega (arith, ok .small, ok .long) }
 
 -- and so is every front of the list
-all-take : {A : Type 0} (f : A → Bool) (m : ℕ) (xs : List A) → all f xs ≡ true → all f (take m xs) ≡ true
-unfolding all
-all-take f zero xs e = refl
-all-take f (suc m) [] e = refl
-all-take f (suc m) (x ∷ xs) e = let b = and-both (f x) (all f xs) e in rw (b .0) (all-take f m xs (b .1))
-
-total-take : (m : ℕ) (ss : List (List ℕ)) → total (take m ss) ≤ total ss
-total-take zero ss = omega arith
-total-take (suc m) [] = omega arith
-total-take (suc m) (s ∷ ss) = omega (arith, total-take m ss)
-
 ready-front : (s : List ℕ) (list : List StrPtr) (count m : ℕ) (ws : List ℕ) → m ≤ count → Ready s list count ws → Ready s list m ws
 ready-front s list count m ws h r =
     let e : take m (listed s list count) ≡ listed s list m = texts-take s (take count list) m ∙ ap (texts s) (take-take m count list h) in
-    let t : total (listed s list m) ≤ total (listed s list count) = rw (← e) (total-take m (listed s list count)) in
+    let t : total (listed s list m) ≤ total (listed s list count) = rw (← e) (total-take (listed s list count) m) in
     record {
       few = omega (arith, r .few);
       room = r .room;
-      plain = rw (← e) (all-take characters m (listed s list count) (r .plain));
+      plain = rw (← e) (all-take characters (listed s list count) m (r .plain));
       small = omega (arith, r .small);
       long = omega (arith, r .long);
     }
@@ -169,37 +101,44 @@ module _ (ss : List (List ℕ)) (ws : List ℕ) (holds : Represents ss ws) (few 
       let m : b .read ≡ n = ap (λ (x : Result × ℕ). x .1) (ap ranOf (sym (b .ran)) ∙ g .1) in
       omega (arith, m, b .early k sure)
 
-module _ (s : List ℕ) (list : List StrPtr) (count : ℕ) (ws : List ℕ) (r : Ready s list count ws) (n v : ℕ) (en : n ≡ total (listed s list count)) (ev : v ≡ n + 2) where
-  pub set-ready : Ready s list count (set ws 0 v)
-  set-ready = ready-same s list count ws (set ws 0 v) r (length-set ws 0 v)
+module _ (s : List ℕ) (list : List StrPtr) (count : ℕ) (ws : List ℕ) (r : Ready s list count ws) (n : ℕ) (en : n ≡ totalOf s list count) where
+  pub build-total : n ≡ total (listed s list count)
+  build-total = en ∙ total-is s list count (r .room) (r .few)
 
-  module _ (ws₁ : List ℕ) (rd : Rowed (listed s list count) (set ws 0 v) ws₁ 1 []) where
-    pub row-ready : Ready s list count ws₁
-    row-ready = ready-same s list count (set ws 0 v) ws₁ set-ready (rd .frame .len)
+  pub build-small : n ≤ 240
+  build-small = omega (arith, build-total, r .small)
 
-    module _ (ws₂ : List ℕ) (rs : Rows (listed s list count) ws₁ ws₂) where
-      kept : Kept (set ws 0 v) ws₂ (1 + 130 * (total (listed s list count) + 2))
-      kept =
-          kept-trans (set ws 0 v) ws₁ ws₂ _
-          (kept-frame (set ws 0 v) (set ws 0 v) ws₁ 1 (total (listed s list count) + 2) (kept-none (set ws 0 v) _) (rd .frame) (omega arith))
-          (rs .kept)
+  module _ (v : ℕ) (ev : v ≡ n + 2) where
+    pub set-ready : Ready s list count (set ws 0 v)
+    set-ready = ready-same s list count ws (set ws 0 v) r (length-set ws 0 v)
 
-      size : sizeOf ws₂ ≡ total (listed s list count) + 2
-      size = kept .front ∙ getD-set-same ws 0 v 0 (omega (arith, r .long)) ∙ omega arith
+    module _ (ws₁ : List ℕ) (rd : Rowed (listed s list count) (set ws 0 v) ws₁ 1 []) where
+      pub row-ready : Ready s list count ws₁
+      row-ready = ready-same s list count (set ws 0 v) ws₁ set-ready (rd .frame .len)
 
-      same : length ws₂ ≡ length ws
-      same = kept .len ∙ length-set ws 0 v
+      module _ (ws₂ : List ℕ) (rs : Rows (listed s list count) ws₁ ws₂) where
+        kept : Kept (set ws 0 v) ws₂ (1 + 130 * (total (listed s list count) + 2))
+        kept =
+            kept-trans (set ws 0 v) ws₁ ws₂ _
+            (kept-frame (set ws 0 v) (set ws 0 v) ws₁ 1 (total (listed s list count) + 2) (kept-none (set ws 0 v) _) (rd .frame) (omega arith))
+            (rs .kept)
 
-      holds : Represents (listed s list count) ws₂
-      holds = record { size = size; long = omega (arith, r .long, same); rows = rs .rows }
+        size : sizeOf ws₂ ≡ total (listed s list count) + 2
+        size = kept .front ∙ getD-set-same ws 0 v 0 (omega (arith, r .long)) ∙ omega (arith, build-total)
 
-      pub table-made : Table (listed s list count) ws ws₂
-      table-made =
-          record {
-            low = omega (arith, size);
-            high = omega (arith, size, r .small);
-            same = same;
-            past = λ i h. kept .high i (omega (arith, size)) ∙ getD-set-other ws 0 i v 0 (λ e. omega arith);
-            finds = table-finds (listed s list count) ws₂ holds (few-listed s list count (r .few)) (r .small) (r .plain);
-            early = table-early (listed s list count) ws₂ holds (few-listed s list count (r .few)) (r .small) (r .plain);
-          }
+        same : length ws₂ ≡ length ws
+        same = kept .len ∙ length-set ws 0 v
+
+        holds : Represents (listed s list count) ws₂
+        holds = record { size = size; long = omega (arith, r .long, same); rows = rs .rows }
+
+        pub table-made : Table (listed s list count) ws ws₂
+        table-made =
+            record {
+              low = omega (arith, size);
+              high = omega (arith, size, r .small);
+              same = same;
+              past = λ i h. kept .high i (omega (arith, size)) ∙ getD-set-other ws 0 i v 0 (λ e. omega arith);
+              finds = table-finds (listed s list count) ws₂ holds (few-listed s list count (r .few)) (r .small) (r .plain);
+              early = table-early (listed s list count) ws₂ holds (few-listed s list count (r .few)) (r .small) (r .plain);
+            }

@@ -16,13 +16,13 @@ use Rattle.states.proofs.Writing.{children-none, children-more, children-all}
 use Rattle.states.specs.State.{total, totalTo}
 use Rattle.states.specs.Fill.{Put, Children}
 use Rattle.translator.proofs.Common.{tells-long, tells-one}
-use Rattle.translator.proofs.Listing.{listed-is, listed-length, listed-next}
-use Rattle.translator.specs.Translate.{listed}
+use Rattle.preparing.proofs.Listing.{listed-is, listed-length, listed-next, total-is}
+use Rattle.preparing.specs.Listed.{listed, totalOf}
 use Rattle.translator.specs.Common.{Tells, TellsAll}
 
 module _ (s : List ℕ) (list : List StrPtr) (m : ℕ) (few : m ≤ 32) (size : length list ≡ 32) where
-  pub child-all : (n : ℕ) → n ≡ total (listed s list m) → n ≡ totalTo (listed s list m) m
-  child-all n e = e ∙ sym (totalTo-all (listed s list m)) ∙ ap (totalTo (listed s list m)) (listed-length s list m few size)
+  pub child-all : (n : ℕ) → length s ≤ 65536 → n ≡ totalOf s list m → n ≡ totalTo (listed s list m) m
+  child-all n room e = e ∙ total-is s list m room few ∙ sym (totalTo-all (listed s list m)) ∙ ap (totalTo (listed s list m)) (listed-length s list m few size)
 
   pub child-none : (ws : List ℕ) (base : ℕ) (u : List ℕ) → Children ws ws base u (listed s list m) m
   child-none ws base u = children-none ws base u (listed s list m) m (omega (arith, listed-length s list m few size))

@@ -17,8 +17,8 @@ use Rattle.search.specs.Search.{isPrefix}
 use Rattle.states.proofs.Prefixes.{eqb-sym}
 use Rattle.states.proofs.Writing.{wrote-none, wrote-more}
 use Rattle.words.specs.Alike.{common}
-use Rattle.translator.proofs.Listing.{listed-length, listed-at, listed-take}
-use Rattle.translator.specs.Translate.{listed}
+use Rattle.preparing.proofs.Listing.{listed-length, listed-at, listed-take}
+use Rattle.preparing.specs.Listed.{listed}
 use Rattle.translator.specs.Common.{NumbersPut, Alike, AlikeTo, Tells, TellsAll}
 
 -- ---- the numbers of a string, and of all

@@ -5,15 +5,15 @@ use mathlib.Core.List.{List}
 use Prim.Native.Nat.{ℕ}
 use native.Mathlib.Omega.{arith}
 use lib.ListN.{length}
-use borrow.Author.Tests.{le-leb}
 use Rattle.strlib.specs.Pointer.{textOf}
 use Rattle.strlib.specs.Refusal.{Outcome, refused, gives, outcome}
 use Rattle.strlib.specs.declared.StrPtr.{StrPtr}
 use Rattle.search.proofs.Meaning.{search-law}
 use Rattle.search.specs.Search.{Result, plainSearch}
 use Rattle.table.specs.Run.{runRule}
-use Rattle.states.specs.State.{total}
-use Rattle.translator.specs.Translate.{listed, translateRefusal, noteIn, Table, Words}
+use Rattle.preparing.proofs.Checking.{translate-taken}
+use Rattle.preparing.specs.Listed.{listed, translateRefusal}
+use Rattle.translator.specs.Translate.{noteIn, Table, Words}
 use Rattle.translator.specs.Demand3.{Found, Demand3}
 
 -- a note comes with a number read
@@ -40,10 +40,10 @@ module _ (ss : List (List ℕ)) (ws s : List ℕ) (host : StrPtr) (e : noteIn (r
       }
 
 pub demand-3 : Demand3
-unfolding outcome Words translateRefusal
+unfolding outcome Words
 demand-3 s list count old l room answer new t =
     let none : translateRefusal s list count (length old) ≡ 0
-    = rw (l .fits, le-leb count 32 (l .few), l .good, l .plain, le-leb (total (listed s list count)) 240 (l .small), le-leb 31461 (length old) room) in
+    = translate-taken s list count (length old) (l .fits) (l .few) (l .good) (l .plain) (l .small) room in
     let table : Table (listed s list count) old new = rw none at (t .words) in
     record {
       done = t .answered ∙ ap (λ (k : ℕ). outcome k tt) none;

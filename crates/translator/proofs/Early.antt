@@ -8,7 +8,8 @@ use Rattle.strlib.proofs.Refusing.{outcome-gave}
 use Rattle.strlib.specs.Pointer.{textOf}
 use Rattle.search.specs.Search.{plainSearch}
 use Rattle.table.specs.Run.{runRule}
-use Rattle.translator.specs.Translate.{listed, translateRefusal, Table, Words}
+use Rattle.preparing.specs.Listed.{listed, translateRefusal}
+use Rattle.translator.specs.Translate.{Table, Words}
 use Rattle.translator.specs.Early.{Early}
 use Rattle.translator.proofs.Demand3.{noted}
 

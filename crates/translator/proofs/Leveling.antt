@@ -15,9 +15,9 @@ use Rattle.states.proofs.Levelling.{kept-step, level-step, level-next, level-sh
 use Rattle.states.proofs.Numbering.{totalTo-zero, totalTo-le, state-le}
 use Rattle.states.specs.State.{total, totalTo}
 use Rattle.states.specs.Fill.{Stepped, levelOf, Levels, Kept}
-use Rattle.translator.proofs.Listing.{listed-is, listed-length, listed-next}
+use Rattle.preparing.proofs.Listing.{listed-is, listed-length, listed-next}
 use Rattle.translator.proofs.Rows.{ready-same}
-use Rattle.translator.specs.Translate.{listed}
+use Rattle.preparing.specs.Listed.{listed}
 use Rattle.translator.specs.Inner.{Ready, Turn, Leveled}
 
 pub level-off0 : (ss : List (List ℕ)) → 0 ≡ totalTo ss 0

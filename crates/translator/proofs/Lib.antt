@@ -1,4 +1,3 @@
-pub mod Listing
 pub mod Common
 pub mod Writers
 pub mod Children

@@ -20,27 +20,10 @@ use Rattle.states.proofs.Writing.{rowed-default, rowed-flat}
 use Rattle.states.specs.State.{total}
 use Rattle.states.specs.Fill.{limit, ifOpen, rootTo, wordOrStop, Flat, Defaulted, Children, NotePut, Rowed, Stepped}
 use Rattle.translator.proofs.Common.{tells-first, tells-root, tells-take}
-use Rattle.translator.proofs.Listing.{listed-length, listed-take, length-listed}
-use Rattle.translator.specs.Translate.{listed}
+use Rattle.preparing.proofs.Listing.{listed-length, listed-take, length-listed}
+use Rattle.preparing.specs.Listed.{listed}
 use Rattle.translator.specs.Common.{TellsAll}
 use Rattle.translator.specs.Inner.{Ready, Open, Next, Turn}
-
-pub open-not : (k n : ℕ) → (k ≡ 0 → ⊥) → 0 ≡ ifOpen k n
-open-not zero n z = absurd (z refl)
-open-not (suc k) n z = refl
-
-pub limit-not : (k n : ℕ) → (k ≡ 0 → ⊥) → k - 1 ≡ limit k n
-limit-not zero n z = absurd (z refl)
-limit-not (suc k) n z = omega arith
-
-pub root-one : (n k : ℕ) → (n ≡ 0 → ⊥) → k ≡ 0 → 1 ≡ rootTo n k
-root-one zero k z e = absurd (z refl)
-root-one (suc n) k z e = rw e
-
-pub root-shut : (n k : ℕ) → (k ≡ 0 → ⊥) → 0 ≡ rootTo n k
-root-shut zero k z = refl
-root-shut (suc n) zero z = absurd (z refl)
-root-shut (suc n) (suc k) z = refl
 
 pub word-some : (ws : List ℕ) (q c r : ℕ) → (q ≡ 0 → ⊥) → r ≡ getD ws (1 + 130 * q + c) 0 → r ≡ wordOrStop ws q c
 word-some ws zero c r z e = absurd (z refl)
@@ -48,7 +31,7 @@ word-some ws (suc q) c r z e = e
 
 -- ---- the first strings of a list
 
-total-take : (ss : List (List ℕ)) (k : ℕ) → total (take k ss) ≤ total ss
+pub total-take : (ss : List (List ℕ)) (k : ℕ) → total (take k ss) ≤ total ss
 total-take [] zero = omega arith
 total-take [] (suc k) = omega arith
 total-take (s ∷ ss) zero = omega arith
@@ -156,7 +139,7 @@ module _ (s : List ℕ) (list : List StrPtr) (count : ℕ) (ws : List ℕ) (r : 
 pub word-next : (ws : List ℕ) (q l n c d r : ℕ) → r ≡ wordOrStop ws q c → c ≡ d → l < n → r ≡ wordOrStop ws q d
 word-next ws q l n c d r e f h = e ∙ rw f
 
-pub ruleset small-laws = (needs, open-not, limit-not, root-one, root-shut, word-some, word-next)
+pub ruleset small-laws = (needs, word-some, word-next)
 
 pub ruleset finish-laws = (needs, finish-closing, finish-few, finish-plain, finish-small, finish-tells, finish-row)
 

@@ -15,7 +15,7 @@ use Rattle.search.specs.Search.{isPrefix, closed}
 use Rattle.states.proofs.Writing.{filled-none, filled-more, filled-end, copied-none, copied-more, copied-end, flat-of, default-zero, default-copy, put-short, put-not, put-set, noted-none, noted-other, noted-whole}
 use Rattle.states.specs.Fill.{Put}
 use Rattle.translator.proofs.Common.{tells-one, tells-long}
-use Rattle.translator.specs.Translate.{listed}
+use Rattle.preparing.specs.Listed.{listed}
 use Rattle.translator.specs.Common.{Tells, TellsAll}
 
 -- the closing string is found as the plain search finds one at a position

@@ -12,7 +12,8 @@ use Rattle.search.specs.Search.{nothing, found, plainSearch}
 use Rattle.search.specs.Occurrence.{Earliest, Nowhere}
 use Rattle.table.specs.Run.{runRule}
 use Rattle.states.specs.State.{total}
-use Rattle.translator.specs.Translate.{listed, Host, Translated}
+use Rattle.preparing.specs.Listed.{listed}
+use Rattle.translator.specs.Translate.{Host, Translated}
 
 -- a list within the limits
 pub record Listed (s : List ℕ) (list : List StrPtr) (count : ℕ) : Type 0 where

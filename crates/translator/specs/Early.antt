@@ -8,7 +8,8 @@ use Rattle.strlib.specs.declared.StrPtr.{StrPtr}
 use Rattle.search.specs.Search.{plainSearch}
 use Rattle.table.specs.Run.{runRule}
 use Rattle.states.specs.Sure.{FirstSure}
-use Rattle.translator.specs.Translate.{listed, Host, Translated}
+use Rattle.preparing.specs.Listed.{listed}
+use Rattle.translator.specs.Translate.{Host, Translated}
 
 -- what a run over the words does with one host: it names what the plain search names, and reads at most one character
 -- past the first place at which that is sure, if there is one; for an empty list this is before the first character (k

@@ -5,17 +5,12 @@ use mathlib.Core.Bool.{true}
 use mathlib.Core.List.{List}
 use lib.ListN.{length, take, drop}
 use Rattle.strlib.specs.Pointer.{all, characters}
-use Rattle.strlib.specs.Refusal.{first}
 use Rattle.strlib.specs.declared.StrPtr.{StrPtr}
 use Rattle.search.specs.Search.{closed}
 use Rattle.states.specs.Node.{at, reach}
 use Rattle.states.specs.State.{total, stateOf, IsNode, RowAt}
 use Rattle.states.specs.Fill.{Default, Short, Levels, Kept}
-use Rattle.translator.specs.Translate.{listed, sourceChecks}
-
--- what the checks of the list alone find
-unfoldable pub sourceRefusal : List ℕ → List StrPtr → ℕ → ℕ
-sourceRefusal s list count = first (sourceChecks s list count)
+use Rattle.preparing.specs.Listed.{listed}
 
 -- a list that was not refused, and words for all its states
 pub record Ready (s : List ℕ) (list : List StrPtr) (count : ℕ) (ws : List ℕ) : Type 0 where

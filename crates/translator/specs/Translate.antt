@@ -1,38 +1,18 @@
 -- Translating a list into a table: 01, "The search table". Assumes nothing.
 use Prim.Native.Nat.{ℕ, zero, suc, _+_, _*_, _≤_}
 use mathlib.Core.Path.{_≡_}
-use mathlib.Core.Bool.{Bool, true}
-use mathlib.Core.List.{List, [], _∷_, _++_}
-use lib.Dec.{leb}
+use mathlib.Core.Bool.{true}
+use mathlib.Core.List.{List}
 use lib.ListN.{length, take, getD}
-use Rattle.strlib.specs.Pointer.{storeFits, goodIn, textOf, texts, all, readable}
-use Rattle.strlib.specs.Refusal.{Outcome, refused, gives, first, outcome}
+use Rattle.strlib.specs.Pointer.{storeFits, goodIn, textOf, readable}
+use Rattle.strlib.specs.Refusal.{Outcome, refused, gives, outcome}
 use Rattle.strlib.specs.declared.StrPtr.{StrPtr}
 use Rattle.search.specs.Search.{Result, plainSearch}
 use Rattle.table.specs.Run.{sizeOf, runRule}
-use Rattle.states.specs.State.{total}
 use Rattle.states.specs.Sure.{Sure}
+use Rattle.preparing.specs.Listed.{listed, translateRefusal}
 use Rattle.translator.specs.declared.TranslateAnswer.{TranslateAnswer}
 use Rattle.translator.specs.declared.TranslateAnswer.the-variants.{Done, Refused}
-
--- the characters of the strings of a list
-abbrev pub listed : List ℕ → List StrPtr → ℕ → List (List ℕ)
-listed s list count = texts s (take count list)
-
--- the store and the count; the listed pointers; their characters
-abbrev pub sourceChecks : List ℕ → List StrPtr → ℕ → List (ℕ × Bool)
-sourceChecks s list count =
-    (3, storeFits s) ∷ (3, leb count 32) ∷ (1, all (goodIn (length s)) (take count list)) ∷ (2, all (readable s) (take count list)) ∷ []
-
--- at most 240 characters together, and at least 31,461 words
-abbrev pub sizeChecks : List ℕ → List StrPtr → ℕ → ℕ → List (ℕ × Bool)
-sizeChecks s list count words = (9, leb (total (listed s list count)) 240) ∷ (9, leb 31461 words) ∷ []
-
-abbrev pub translateChecks : List ℕ → List StrPtr → ℕ → ℕ → List (ℕ × Bool)
-translateChecks s list count words = sourceChecks s list count ++ sizeChecks s list count words
-
-unfoldable pub translateRefusal : List ℕ → List StrPtr → ℕ → ℕ → ℕ
-translateRefusal s list count words = first (translateChecks s list count words)
 
 -- a host that a run does not refuse by itself
 pub record Host (s : List ℕ) (host : StrPtr) : Type 0 where

@@ -5,7 +5,7 @@ use strlib::StrPtr;
 ghost use mathlib.Core.Path.{_≡_};
 ghost use Prim.Native.Nat.{_+_, _≤_};
 ghost use lib.ListN.{length};
-ghost use Rattle.translator.specs.Translate.{listed};
+ghost use Rattle.preparing.specs.Listed.{listed};
 ghost use Rattle.translator.specs.Common.{NumbersPut, Alike};
 
 // The numbers of x, from base on.

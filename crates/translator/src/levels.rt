@@ -8,8 +8,9 @@ ghost use Prim.Native.Nat.{_+_, _≤_, _<_};
 ghost use lib.ListN.{length};
 ghost use Rattle.states.specs.State.{total, RowAt};
 ghost use Rattle.states.specs.Fill.{Stepped, Levels};
-ghost use Rattle.translator.specs.Translate.{listed, translateRefusal, translateAnswered, Table, Translated};
-ghost use Rattle.translator.specs.Inner.{Ready, Turn, Leveled, Rows, sourceRefusal};
+ghost use Rattle.preparing.specs.Listed.{listed};
+ghost use Rattle.translator.specs.Translate.{translateAnswered, Table, Translated};
+ghost use Rattle.translator.specs.Inner.{Ready, Turn, Leveled, Rows};
 ghost use Rattle.translator.specs.Common.{Alike, AlikeTo};
 
 // The row of the first l characters of x, if there are so many. Gives the state of the tail of one character more.
@@ -94,7 +95,7 @@ fn build(store: &[u8], list: StrList, count: usize, table: &mut [u16])
     requires { ⌜ Ready (now store) list count (now table) ⌝ }
     ensures { λ _. ⌜ Table (listed (now (store .entry)) list count) (now (table .entry)) (now (table .exit)) ⌝ }
 {
-    let n = super::total_of(store, list, count);
+    let n = preparing::total_of(store, list, count);
     table[0] = super::narrow(n + 2);
     let mut alike = [0usize; StrPtr::LIST_MAX * StrPtr::LIST_MAX];
     super::alike::fill_alike(store, list, count, &mut alike);
@@ -102,32 +103,11 @@ fn build(store: &[u8], list: StrList, count: usize, table: &mut [u16])
     fill_levels(store, list, count, &alike, n, table);
 }
 
-fn list_refusal(store: &[u8], list: StrList, count: usize) -> u8
-    ensures { λ r. ⌜ r ≡ sourceRefusal (now (store .entry)) list count ⌝ }
-{
-    let found = strlib::check_store(store);
-    let found = strlib::check(found, 3, count <= StrPtr::LIST_MAX);
-    let found = strlib::check_all_good(found, store, list, count);
-    strlib::check_all_readable(found, store, list, count)
-}
-
-fn translate_refusal(store: &[u8], list: StrList, count: usize, words: usize) -> u8
-    ensures { λ r. ⌜ r ≡ translateRefusal (now (store .entry)) list count words ⌝ }
-{
-    let found = list_refusal(store, list, count);
-    if found != 0 {
-        return found;
-    }
-    let n = super::total_of(store, list, count);
-    let found = strlib::check(0, 9, n <= StrPtr::LIST_CHARACTERS_MAX);
-    strlib::check(found, 9, StrPtr::TABLE_MIN <= words)
-}
-
 // The table of a list, for any number of hosts.
 pub fn translate(store: &[u8], list: StrList, count: usize, table: &mut [u16]) -> TranslateAnswer
     ensures { λ r. ⌜ Translated (now (store .entry)) list count (now (table .entry)) (translateAnswered r) (now (table .exit)) ⌝ }
 {
-    let found = translate_refusal(store, list, count, table.len());
+    let found = preparing::translate_refusal(store, list, count, table.len());
     if found != 0 {
         return TranslateAnswer::Refused(found);
     }

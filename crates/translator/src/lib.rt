@@ -16,8 +16,8 @@ ghost use lib.ListN.{length, getD};
 ghost use Rattle.strlib.specs.Pointer.{texts, all, characters};
 ghost use Rattle.search.specs.Search.{closed, lengthOf};
 ghost use Rattle.states.specs.State.{total};
-ghost use Rattle.states.specs.Fill.{limit, ifOpen, rootTo, wordOrStop, Filled, Copied, Flat, Defaulted, Put, Children, NotePut, Rowed};
-ghost use Rattle.translator.specs.Translate.{listed};
+ghost use Rattle.states.specs.Fill.{wordOrStop, Filled, Copied, Flat, Defaulted, Put, Children, NotePut, Rowed};
+ghost use Rattle.preparing.specs.Listed.{listed};
 ghost use Rattle.translator.specs.Inner.{Ready, Open, Next};
 ghost use Rattle.translator.specs.Common.{Tells, TellsAll};
 pub use levels::translate;
@@ -42,21 +42,6 @@ fn narrow(x: usize) -> u16
 }
 
 // ---- the strings
-
-// The characters of the first m strings together.
-fn total_of(store: &[u8], list: StrList, m: usize) -> usize
-    requires { ⌜ (m ≤ 32) × (length (now store) ≤ 65536) ⌝ }
-    ensures { λ r. ⌜ r ≡ total (listed (now (store .entry)) list m) ⌝ }
-{
-    let mut i = 0;
-    let mut sum = 0;
-    while i < m {
-        let x = strlib::text(store, list[i]);
-        sum += x.len();
-        i += 1;
-    }
-    sum
-}
 
 // The number of the first listed string that u begins with, 0 for none. `alike` has the numbers of the string that u is
 // cut from.
@@ -162,7 +147,7 @@ fn put_children(
     ensures { λ _. ⌜ Children (now (table .entry)) (now (table .exit)) base (now (u .entry)) (listed (now (store .entry)) list m) 0 ⌝ }
 {
     let l = u.len();
-    let mut at = total_of(store, list, m);
+    let mut at = preparing::total_of(store, list, m);
     let mut k = m;
     while 0 < k {
         k -= 1;
@@ -188,28 +173,6 @@ fn put_note(table: &mut [u16], q: usize, closing: usize, n: usize, l: usize)
 
 // ---- a row
 
-// How many strings count: those before the closing one.
-fn limit_of(closing: usize, count: usize) -> usize
-    ensures { λ r. ⌜ r ≡ limit closing count ⌝ }
-{
-    if closing == 0 { count } else { closing - 1 }
-}
-
-fn if_open(closing: usize, n: usize) -> usize
-    ensures { λ r. ⌜ r ≡ ifOpen closing n ⌝ }
-{
-    if closing == 0 { n } else { 0 }
-}
-
-fn root_to(count: usize, closing: usize) -> u16
-    ensures { λ r. ⌜ r ≡ rootTo count closing ⌝ }
-{
-    if count == 0 {
-        return 0;
-    }
-    if closing == 0 { 1 } else { 0 }
-}
-
 // The row of u, which has its default.
 fn finish_row(
     store: &[u8],
@@ -224,7 +187,7 @@ fn finish_row(
     requires { ⌜ Ready (now store) list count (now table) × Open (listed (now store) list count) (now table) (now u) q closing × TellsAll (now alike) (now u) (listed (now store) list count) ⌝ }
     ensures { λ _. ⌜ Rowed (listed (now (store .entry)) list count) (now (table .entry)) (now (table .exit)) q (now (u .entry)) ⌝ }
 {
-    let m = limit_of(closing, count);
+    let m = preparing::limit_of(closing, count);
     let n = length_of(store, list, closing);
     put_children(store, list, m, u, alike, 1 + STATE_WORDS * q, table);
     put_note(table, q, closing, n, u.len());
@@ -237,7 +200,7 @@ fn root_row(store: &[u8], list: StrList, count: usize, alike: &[usize], table: &
 {
     let u = &store[..0];
     let closing = closed_by(store, list, count, u, alike);
-    flat_row(table, 1, root_to(count, closing));
+    flat_row(table, 1, preparing::root_to(count, closing));
     finish_row(store, list, count, u, alike, closing, 1, table);
 }
 
@@ -256,7 +219,7 @@ fn fill_row(
     ensures { λ _. ⌜ Rowed (listed (now (store .entry)) list count) (now (table .entry)) (now (table .exit)) q (now (u .entry)) ⌝ }
 {
     let closing = closed_by(store, list, count, u, alike);
-    let from = if_open(closing, fail);
+    let from = preparing::if_open(closing, fail);
     default_row(table, q, from);
     finish_row(store, list, count, u, alike, closing, q, table);
 }

@@ -1,4 +1,4 @@
-use Rattle.translator.proofs.Listing.{length-laws}
+use Rattle.preparing.proofs.Listing.{length-laws}
 use Rattle.translator.proofs.length_of.Statement.{statement}
 use Rattle.translator.proofs.length_of.Tie as tie
 

@@ -3,7 +3,7 @@ use mathlib.Core.Path.{_≡_}
 use lib.ListN.{length}
 use Rattle.states.specs.State.{totalTo}
 use Rattle.states.specs.Fill.{Children}
-use Rattle.translator.specs.Translate.{listed}
+use Rattle.preparing.specs.Listed.{listed}
 use Rattle.translator.proofs.Children.{children-laws}
 use Rattle.translator.proofs.put_children.Statement.{statement}
 use Rattle.translator.proofs.put_children.Tie as tie

@@ -1,4 +1,4 @@
-use Rattle.answers.proofs.Turning.{feed-laws}
+use Rattle.answers.proofs.Finishing.{feed-laws}
 use Rattle.answers.proofs.pieces.feed.Statement.{statement}
 use Rattle.answers.proofs.pieces.feed.Tie as tie
 

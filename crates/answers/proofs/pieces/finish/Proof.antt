@@ -1,4 +1,4 @@
-use Rattle.answers.proofs.Turning.{end-laws}
+use Rattle.answers.proofs.Finishing.{end-laws}
 use Rattle.answers.proofs.pieces.finish.Statement.{statement}
 use Rattle.answers.proofs.pieces.finish.Tie as tie
 

@@ -1,7 +1,7 @@
 use Prim.Native.Nat.{_≤_, _-_}
 use mathlib.Core.Path.{_≡_}
 use lib.ListN.{length}
-use Rattle.translator.specs.Translate.{listed}
+use Rattle.preparing.specs.Listed.{listed}
 use Rattle.translator.specs.Common.{NumbersPut}
 use Rattle.translator.proofs.Common.{numbers-laws}
 use Rattle.translator.proofs.alike.put_numbers.Statement.{statement}

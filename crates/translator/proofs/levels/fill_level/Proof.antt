@@ -6,7 +6,7 @@ use borrow.Author.Needs.{needs}
 use Rattle.states.proofs.Levelling.{kept-none}
 use Rattle.states.specs.State.{total, totalTo}
 use Rattle.states.specs.Fill.{Levels, Kept}
-use Rattle.translator.specs.Translate.{listed}
+use Rattle.preparing.specs.Listed.{listed}
 use Rattle.translator.proofs.Common.{alike-to}
 use Rattle.translator.proofs.Leveling.{level-off0, level-off, level-fits, level-small, level-turn, level-on, level-kept, level-end, level-ready}
 use Rattle.translator.proofs.levels.fill_level.Statement.{statement}

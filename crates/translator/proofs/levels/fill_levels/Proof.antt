@@ -6,7 +6,7 @@ use borrow.Author.Needs.{needs}
 use Rattle.states.proofs.Levelling.{level-start, kept-none, kept-trans}
 use Rattle.states.specs.State.{total}
 use Rattle.states.specs.Fill.{Levels, Kept}
-use Rattle.translator.specs.Translate.{listed}
+use Rattle.preparing.specs.Listed.{listed}
 use Rattle.translator.proofs.Checking.{levels-end, ones}
 use Rattle.translator.proofs.Rows.{ready-same}
 use Rattle.translator.proofs.levels.fill_levels.Statement.{statement}

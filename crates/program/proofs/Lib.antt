@@ -1,0 +1,4 @@
+pub mod Fitting
+pub mod Resting
+pub mod Totalling
+pub mod Running

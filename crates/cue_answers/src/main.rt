@@ -82,7 +82,7 @@ fn answer_file(name: &[u8], out: &mut [u8; OUT]) -> Ending
 
 // Says on standard error why a run is not complete; whether that could be written nobody is left to be told.
 fn complain(out: &mut [u8; OUT], source: Source, name: &[u8], ending: Ending) {
-    let n = endings::complaint(out, b"cue_answers", source, name, ending);
+    let n = complaints::complaint(out, b"cue_answers", source, name, ending);
     desk_io::write(2, strlib::text(out, StrPtr::full(0, n)));
 }
 
@@ -98,6 +98,6 @@ fn main() {
         Source::File => answer_file(strlib::text(&name, named), &mut out),
         Source::Neither => Ending::Misused,
     };
-    endings::show(&mut name);
+    complaints::show(&mut name);
     complain(&mut out, source, strlib::text(&name, named), ending);
 }

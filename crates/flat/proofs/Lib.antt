@@ -1,4 +1,2 @@
 pub mod StringLaws
-pub mod FindLaws
-pub mod RunLaws
 pub mod ValueLaws

@@ -1,4 +1,2 @@
 pub mod Strings
-pub mod Finds
-pub mod Runs
 pub mod Values

@@ -1,24 +1,9 @@
 // The answers as C takes them: each a flat struct, with the refusal's number first and 0 for none. On a refusal the
-// other fields are 0, but for what a burst's run carries; where nothing was found too, but for the number read by a
-// table's run. One function for each answer of the library makes the struct.
-mod finds;
-mod runs;
+// other fields are 0. One function for each answer of the library makes the struct; flat_finds has those that may find
+// nothing.
 mod strings;
 mod values;
 
-pub use finds::FlatCharacter;
-pub use finds::FlatMatch;
-pub use finds::FlatName;
-pub use finds::FlatNote;
-pub use finds::FlatSplit;
-pub use finds::character;
-pub use finds::matched;
-pub use finds::name;
-pub use finds::name_part;
-pub use finds::note;
-pub use finds::split;
-pub use runs::FlatBurst;
-pub use runs::burst;
 pub use strings::FlatCopied;
 pub use strings::FlatLabel;
 pub use strings::FlatPart;

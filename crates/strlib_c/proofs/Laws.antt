@@ -19,18 +19,18 @@ use Rattle.desk.specs.Label.{namePart}
 use Rattle.desk.specs.declared.cue.Cue.{Cue}
 use Rattle.cutting.specs.declared.parts.DeskLabel.{DeskLabel}
 use Rattle.flat.specs.Strings.{flatWith, flatString, flatPart, flatLabel}
-use Rattle.flat.specs.Finds.{flatMatch, flatSplit, flatNote, flatCharacter, flatName}
-use Rattle.flat.specs.Runs.{flatBurst}
+use Rattle.flat_finds.specs.Finds.{flatMatch, flatSplit, flatNote, flatCharacter, flatName}
+use Rattle.flat_finds.specs.Runs.{flatBurst}
 use Rattle.flat.specs.Values.{flatComparison, flatNumber, flatCue, flatSize, flatDone, done}
 use Rattle.flat.specs.declared.strings.FlatString.{FlatString}
 use Rattle.flat.specs.declared.strings.FlatPart.{FlatPart}
 use Rattle.flat.specs.declared.strings.FlatLabel.{FlatLabel}
-use Rattle.flat.specs.declared.finds.FlatMatch.{FlatMatch}
-use Rattle.flat.specs.declared.finds.FlatSplit.{FlatSplit}
-use Rattle.flat.specs.declared.finds.FlatNote.{FlatNote}
-use Rattle.flat.specs.declared.finds.FlatCharacter.{FlatCharacter}
-use Rattle.flat.specs.declared.finds.FlatName.{FlatName}
-use Rattle.flat.specs.declared.runs.FlatBurst.{FlatBurst}
+use Rattle.flat_finds.specs.declared.finds.FlatMatch.{FlatMatch}
+use Rattle.flat_finds.specs.declared.finds.FlatSplit.{FlatSplit}
+use Rattle.flat_finds.specs.declared.finds.FlatNote.{FlatNote}
+use Rattle.flat_finds.specs.declared.finds.FlatCharacter.{FlatCharacter}
+use Rattle.flat_finds.specs.declared.finds.FlatName.{FlatName}
+use Rattle.flat_finds.specs.declared.runs.FlatBurst.{FlatBurst}
 use Rattle.flat.specs.declared.values.FlatComparison.{FlatComparison}
 use Rattle.flat.specs.declared.values.FlatNumber.{FlatNumber}
 use Rattle.flat.specs.declared.values.FlatCue.{FlatCue}

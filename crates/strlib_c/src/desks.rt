@@ -1,13 +1,13 @@
 // The desk: cue lines and label lists.
 use flat::FlatCue;
-use flat::FlatName;
 use flat::FlatPart;
 use flat::FlatSize;
+use flat_finds::FlatName;
 ghost use mathlib.Core.Path.{_≡_};
 ghost use Rattle.desk.specs.Cue.{cueRule};
 ghost use Rattle.desk.specs.Label.{readLabelsRule, findLabelRule, namePart, addRule};
 ghost use Rattle.flat.specs.Strings.{flatWith, flatPart};
-ghost use Rattle.flat.specs.Finds.{flatName};
+ghost use Rattle.flat_finds.specs.Finds.{flatName};
 ghost use Rattle.flat.specs.Values.{flatCue, flatSize};
 
 #[no_mangle]
@@ -28,14 +28,14 @@ pub extern "C" fn strlib_read_labels(list: &[u8]) -> FlatSize
 pub extern "C" fn strlib_find_label(list: &[u8], kind: u8, number: usize) -> FlatName
     ensures { λ r. ⌜ r ≡ flatName (findLabelRule (now (list .entry)) kind number) ⌝ }
 {
-    flat::name(desk::find_label(list, kind, number))
+    flat_finds::name(desk::find_label(list, kind, number))
 }
 
 #[no_mangle]
 pub extern "C" fn strlib_label_name(list: &[u8], kind: u8, number: usize) -> FlatPart
     ensures { λ r. ⌜ r ≡ flatPart (namePart (findLabelRule (now (list .entry)) kind number)) ⌝ }
 {
-    flat::name_part(desk::find_label(list, kind, number))
+    flat_finds::name_part(desk::find_label(list, kind, number))
 }
 
 #[no_mangle]

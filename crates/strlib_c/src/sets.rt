@@ -1,11 +1,11 @@
 // Character sets.
-use flat::FlatCharacter;
+use flat_finds::FlatCharacter;
 use strlib::StrPtr;
 ghost use mathlib.Core.Path.{_≡_};
 ghost use mathlib.Core.Bool.{true, false};
 ghost use Rattle.charset.specs.Rule.{tablesRule, charactersRule, findRule};
 ghost use Rattle.flat.specs.Strings.{flatWith};
-ghost use Rattle.flat.specs.Finds.{flatCharacter};
+ghost use Rattle.flat_finds.specs.Finds.{flatCharacter};
 ghost use Rattle.flat.specs.Values.{flatDone};
 
 #[no_mangle]
@@ -55,7 +55,7 @@ pub extern "C" fn strlib_find_first(
 ) -> FlatCharacter
     ensures { λ r. ⌜ r ≡ flatCharacter (findRule false (now (store .entry)) host (now (block .entry)) mask) ⌝ }
 {
-    flat::character(charset::find_first(store, host, block, mask))
+    flat_finds::character(charset::find_first(store, host, block, mask))
 }
 
 #[no_mangle]
@@ -67,5 +67,5 @@ pub extern "C" fn strlib_find_last(
 ) -> FlatCharacter
     ensures { λ r. ⌜ r ≡ flatCharacter (findRule true (now (store .entry)) host (now (block .entry)) mask) ⌝ }
 {
-    flat::character(charset::find_last(store, host, block, mask))
+    flat_finds::character(charset::find_last(store, host, block, mask))
 }

@@ -1,15 +1,15 @@
 // The search table: translating a list, the run over a host, and over one that comes in bursts.
 use bursts::Carried;
-use flat::FlatBurst;
 use flat::FlatList;
-use flat::FlatNote;
+use flat_finds::FlatBurst;
+use flat_finds::FlatNote;
 use strlib::StrPtr;
 ghost use mathlib.Core.Path.{_≡_};
 ghost use Rattle.table.specs.Run.{runRule};
 ghost use Rattle.translator.specs.Translate.{Translated};
 ghost use Rattle.bursts.specs.Bursts.{fresh, burstRule};
-ghost use Rattle.flat.specs.Finds.{flatNote};
-ghost use Rattle.flat.specs.Runs.{flatBurst};
+ghost use Rattle.flat_finds.specs.Finds.{flatNote};
+ghost use Rattle.flat_finds.specs.Runs.{flatBurst};
 ghost use Rattle.flat.specs.Values.{done};
 
 #[no_mangle]
@@ -24,7 +24,7 @@ pub extern "C" fn strlib_translate(store: &[u8], list: FlatList, table: &mut [u1
 pub extern "C" fn strlib_run(store: &[u8], host: StrPtr, table: &[u16]) -> FlatNote
     ensures { λ r. ⌜ r ≡ flatNote (runRule (now (store .entry)) host (now (table .entry))) ⌝ }
 {
-    flat::note(table::run(store, host, table))
+    flat_finds::note(table::run(store, host, table))
 }
 
 #[no_mangle]
@@ -38,5 +38,5 @@ pub extern "C" fn strlib_fresh_run() -> Carried
 pub extern "C" fn strlib_burst(carried: Carried, burst: &[u8], table: &[u16]) -> FlatBurst
     ensures { λ r. ⌜ r ≡ flatBurst carried (burstRule carried (now (burst .entry)) (now (table .entry))) ⌝ }
 {
-    flat::burst(carried, bursts::burst(carried, burst, table))
+    flat_finds::burst(carried, bursts::burst(carried, burst, table))
 }

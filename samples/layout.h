@@ -1,5 +1,6 @@
 /* Where every field of every struct of strlib.h stands, and its type, on x86-64: as in the library's structs of the
- * same fields (#[repr(C)] in crates/, most of them in flat) and in those of rust/src. So are the limits. */
+ * same fields (#[repr(C)] in crates/, most of them in flat and flat_finds) and in those of rust/src. So are the
+ * limits. */
 #ifndef LAYOUT_H
 #define LAYOUT_H
 

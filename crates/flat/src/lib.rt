@@ -1,6 +1,6 @@
 // The answers as C takes them: each a flat struct, with the refusal's number first and 0 for none. On a refusal the
-// other fields are 0. One function for each answer of the library makes the struct; flat_finds has those that may find
-// nothing.
+// other fields are 0. One function for each answer of the library makes the struct; flat_finds has those of a search, a
+// run and a burst.
 mod strings;
 mod values;
 

@@ -1,9 +1,9 @@
 -- The place rule and the round rule of the checkpointed join: 01, "Copying", second paragraph. Each claim is one type.
 -- 01's sentence on the next place is `PlaceRules`, that on m = 0 `NothingMoves`, that on rounds `ChainRules`: any calls
 -- from (1, 1) on of which none is refused, however stores and destinations change in between, as long as the sources
--- and m stay. `AgainRules` is the case of one destination, called again on the store that the call before left: there it
--- is enough that the first call is not refused. `AnyLength` says that a destination's length plays no part, `RoundRules`
--- is the round rule on the definitions. Assumes nothing.
+-- and m stay. `AgainRules` is the case of one destination, called again on the store that the call before left: there
+-- it is enough that the first call is not refused. `AnyLength` says that a destination's length plays no part,
+-- `RoundRules` is the round rule on the definitions. Assumes nothing.
 use Prim.Native.Nat.{ℕ, zero, suc, _+_, _-_, _/_, _≤_, _<_, max}
 use mathlib.Core.Path.{_≡_}
 use mathlib.Core.Bool.{true, false}

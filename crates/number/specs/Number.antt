@@ -23,7 +23,8 @@ numberAnswered (Refused n) = refused n
 
 -- ---- reading
 
--- the checks of a reading, in their order: those before the question whether the text is a number, then those of the text
+-- the checks of a reading, in their order: those before the question whether the text is a number, then those of the
+-- text
 abbrev pub beforeText : List ℕ → StrPtr → ℕ → List (ℕ × Bool)
 beforeText s p base = (3, storeFits s) ∷ (3, isBase base) ∷ (1, goodIn (length s) p) ∷ (2, readable s p) ∷ []
 

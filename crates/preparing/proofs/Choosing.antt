@@ -1,4 +1,4 @@
--- Laws of which strings count in a row. Assumes nothing.
+-- Laws of how many strings count in a row, and of its default. Assumes nothing.
 use mathlib.Core.Path.{_≡_, refl}
 use Prim.Native.Nat.{ℕ, zero, suc, _-_}
 use native.Mathlib.Omega.{arith}

@@ -1,4 +1,4 @@
--- What the functions inside the crate ask of one another. Assumes nothing.
+-- What a function inside the crate promises the others. Assumes nothing.
 use Prim.Native.Nat.{ℕ}
 use mathlib.Core.List.{List}
 use Rattle.strlib.specs.Refusal.{first}

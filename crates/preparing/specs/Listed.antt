@@ -13,7 +13,7 @@ use Rattle.states.specs.State.{total}
 abbrev pub listed : List ℕ → List StrPtr → ℕ → List (List ℕ)
 listed s list count = texts s (take count list)
 
--- how many they are together, where store and count are within their limits
+-- how many they are together, where store and count are within their limits; elsewhere 0
 unfoldable pub totalOf : List ℕ → List StrPtr → ℕ → ℕ
 totalOf s list count = cond (storeFits s && leb count 32) (total (listed s list count)) 0
 

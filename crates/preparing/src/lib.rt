@@ -1,5 +1,5 @@
-// What a translation decides before it writes a word: whether its list is refused, how many characters the list has,
-// and which of its strings count in a row: 01, "The search table". Each takes any input.
+// The refusals and choices of a translation, each for any input: what refuses it, how many characters its list has, how
+// many strings count in a row, and what the row's default is: 01, "The search table".
 use strlib::StrList;
 use strlib::StrPtr;
 ghost use mathlib.Core.Path.{_≡_};

@@ -1,5 +1,5 @@
--- How the rows of a table are filled: what the functions of the translator promise one another. Each record says what
--- stands in the words ws′ after a function was lent the words ws. Assumes nothing.
+-- How the rows of a table are filled: what the functions of translator and preparing promise one another. Each record
+-- says what stands in the words ws′ after a function was lent the words ws. Assumes nothing.
 use Prim.Native.Nat.{ℕ, zero, suc, _+_, _*_, _≤_, _<_}
 use mathlib.Core.Path.{_≡_}
 use mathlib.Core.Bool.{Bool, true, false, cond}

@@ -10,7 +10,6 @@ use strlib::StrPtr;
 use table::Note;
 use table::RunAnswer;
 use translator::TranslateAnswer;
-ghost use mathlib.Core.Path.{_≡_};
 ghost use lib.ListN.{length};
 ghost use Rattle.table_examples.specs.Two.{twoAnswered, SearchedTwo};
 

@@ -4,7 +4,6 @@ mod alike;
 mod levels;
 
 use strlib::StrList;
-use strlib::StrPtr;
 use table::LENGTH_WORD;
 use table::STATE_WORDS;
 use table::STRING_WORD;

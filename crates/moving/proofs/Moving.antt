@@ -1,22 +1,45 @@
--- Laws of the moving leaf. What is moved is what `put` writes, a byte more each turn: behind it for a move towards the
--- front, in front of it for a move towards the back; the bytes still to be read are as they were. Assumes nothing.
+-- Laws of the moving leaf. What is moved is what `put` writes, some bytes more each step: behind it for a move towards
+-- the front, in front of it for a move towards the back; the bytes still to be read are as they were. Assumes nothing.
 use mathlib.Core.Path.{_≡_, sym, ap, _∙_}
 use mathlib.Core.Bool.{Bool, true, false, and-false}
-use mathlib.Core.List.{List, [], _∷_, _++_}
-use Prim.Native.Nat.{ℕ, suc, _+_, _-_, _≤_, _<_}
+use mathlib.Core.List.{List, _++_}
+use Prim.Native.Nat.{ℕ, _+_, _-_, _≤_, _<_, min}
 use native.Mathlib.Nat.{sub-self, add-zero, sub-zero}
-use native.Mathlib.Numerals.{add-one}
 use native.Mathlib.Omega.{arith}
-use lib.ListN.{length, take, drop, getD, set, length-take, length-drop}
-use lib.Seq.{take-suc, drop-cons, getD-drop, getD-take}
+use lib.ListN.{length, take, drop, length-take, length-drop}
+use lib.Seq.{take-add, drop-drop}
 use borrow.Author.Needs.{needs}
 use Rattle.strlib.specs.Pointer.{within}
 use Rattle.strlib.specs.Store.{put}
 use Rattle.strlib.proofs.Pointing.{within-so, is-within}
-use Rattle.strlib.proofs.Storing.{put-none, put-more, put-front, drop-put, part-before}
+use Rattle.strlib.proofs.Storing.{put-none, put-put, put-before, part-put, part-before, part-after, put-length}
 use Rattle.moving.specs.Moving.{moved}
 
--- ---- the two loops
+-- ---- one step
+
+part-length : (s : List ℕ) (at n : ℕ) → at + n ≤ length s → length (take n (drop at s)) ≡ n
+part-length s at n h = rw (length-take, length-drop) (omega arith)
+
+-- what was read stands in front in the block b, and is read back
+module _ (s b t : List ℕ) (from to n : ℕ) (e : t ≡ put b 0 (take (from + n - from) (drop from s))) (hf : from + n ≤ length s) (hb : n ≤ length b) where
+  step-read : take n t ≡ take n (drop from s)
+  step-read =
+      let xs : List ℕ = take n (drop from s) in
+      let j : from + n - from ≡ n = omega arith in
+      let l : length xs ≡ n = part-length s from n hf in
+      let p : take (length xs) (drop 0 (put b 0 xs)) ≡ xs = part-put b 0 xs (omega arith) in
+      rw (e, j) (rw l at p)
+
+  pub step-count : n ≡ length (take n t)
+  step-count = sym (rw step-read (part-length s from n hf))
+
+  pub step-room : to + n ≤ length s → to + length (take n t) ≤ length s
+  step-room h = rw (← step-count) h
+
+  pub step-end : (u : List ℕ) → u ≡ put s to (take n t) → u ≡ put s to (take n (drop from s))
+  step-end u h = h ∙ rw step-read
+
+-- ---- the two loops, whatever the width k of a step
 
 -- i bytes moved from the front on
 unfoldable pub down : List ℕ → ℕ → ℕ → ℕ → List ℕ
@@ -31,22 +54,18 @@ unfolding down
 down-none s from to = sym (put-none s to)
 
 module _ (s t : List ℕ) (from to n i : ℕ) (e : t ≡ down s from to i) (hf : from + n ≤ length s) (ht : to ≤ from) where
-  pub down-more : i < n → set t (to + i) (getD t (from + i) 0) ≡ down s from to (i + 1)
+  pub down-more : (k : ℕ) → i + k ≤ n → put t (to + i) (take k (drop (from + i) t)) ≡ down s from to (i + k)
   unfolding down
-  down-more h =
+  down-more k h =
       let xs : List ℕ = take i (drop from s) in
-      let l : length xs ≡ i = rw (length-take, length-drop) (omega arith) in
-      let f : to + i + (from - to) ≡ from + i = omega arith in
-      let g : getD (put s to xs) (from + i) 0 ≡ getD (drop from s) i 0 =
-      ap (λ (k : ℕ). getD (put s to xs) k 0) (sym f)
-      ∙ sym (getD-drop (to + i) (put s to xs) (from - to) 0)
-      ∙ ap (λ (z : List ℕ). getD z (from - to) 0) (drop-put s to xs (omega arith) (to + i) (omega arith))
-      ∙ getD-drop (to + i) s (from - to) 0
-      ∙ ap (λ (k : ℕ). getD s k 0) f
-      ∙ sym (getD-drop from s i 0) in
-      let m : set (put s to xs) (to + length xs) (getD (drop from s) i 0) ≡ put s to (xs ++ (getD (drop from s) i 0 ∷ [])) =
-      put-more s to xs (getD (drop from s) i 0) (omega arith) in
-      rw (e, g, add-one, take-suc (drop from s) i 0 (rw length-drop (omega arith))) (rw l at m)
+      let zs : List ℕ = take k (drop (from + i) s) in
+      let l : length xs ≡ i = part-length s from i (omega arith) in
+      let r : take k (drop (from + i) t) ≡ zs = rw e (part-after s to xs (omega arith) (from + i) k (omega arith)) in
+      let m : put (put s to xs) (to + length xs) zs ≡ put s to (xs ++ zs) = put-put s to xs (omega arith) zs in
+      rw (r, e, take-add i k (drop from s), drop-drop i from s) (rw l at m)
+
+  pub down-step : (u : List ℕ) (k m : ℕ) → u ≡ put t (to + i) (take k (drop (from + i) t)) → k ≡ min (n - i) m → i < n → u ≡ down s from to (i + k)
+  down-step u k m q l h = q ∙ down-more k (omega arith)
 
   pub down-end : n ≤ i → i ≤ n → t ≡ put s to (take n (drop from s))
   unfolding down
@@ -57,20 +76,23 @@ unfolding up
 up-none s from to n = rw sub-self (sym (put-none s (to + n)))
 
 module _ (s t : List ℕ) (from to n i : ℕ) (e : t ≡ up s from to n i) (ht : to + n ≤ length s) (hf : from ≤ to) where
-  pub up-more : (j : ℕ) → j < i → i ≤ n → set t (to + (i - 1)) (getD t (from + (i - 1)) 0) ≡ up s from to n (i - 1)
+  pub up-more : (k : ℕ) → k ≤ i → i ≤ n → put t (to + (i - k)) (take k (drop (from + (i - k)) t)) ≡ up s from to n (i - k)
   unfolding up
-  up-more _ h k =
-      let j : ℕ = i - 1 in
-      let xs : List ℕ = take (n - i) (drop (from + i) s) in
-      let l : length xs ≡ n - i = rw (length-take, length-drop) (omega arith) in
-      let a : to + i ≡ to + j + 1 = omega arith in
-      let b : n - j ≡ suc (n - i) = omega arith in
-      let f : suc (from + j) ≡ from + i = omega arith in
-      let g : getD (put s (to + j + 1) xs) (from + j) 0 ≡ getD s (from + j) 0 =
-      sym (getD-take (from + j + 1) (put s (to + j + 1) xs) (from + j) 0 (omega arith))
-      ∙ ap (λ (z : List ℕ). getD z (from + j) 0) (part-before s (to + j + 1) xs (omega arith) 0 (from + j + 1) (omega arith))
-      ∙ getD-take (from + j + 1) s (from + j) 0 (omega arith) in
-      rw (e, a, g, put-front s (to + j) xs (getD s (from + j) 0) (omega arith), b, drop-cons s (from + j) 0 (omega arith), f)
+  up-more k h g =
+      let j : ℕ = i - k in
+      let xs : List ℕ = take k (drop (from + j) s) in
+      let ys : List ℕ = take (n - i) (drop (from + i) s) in
+      let l : length xs ≡ k = part-length s (from + j) k (omega arith) in
+      let y : length ys ≡ n - i = part-length s (from + i) (n - i) (omega arith) in
+      let a : to + j + k ≡ to + i = omega arith in
+      let b : n - j ≡ k + (n - i) = omega arith in
+      let f : from + j + k ≡ from + i = omega arith in
+      let r : take k (drop (from + j) t) ≡ xs = rw e (part-before s (to + i) ys (omega arith) (from + j) k (omega arith)) in
+      let m : put (put s (to + j + length xs) ys) (to + j) xs ≡ put s (to + j) (xs ++ ys) = put-before s (to + j) xs ys (omega arith) in
+      rw (r, e, b, take-add k (n - i) (drop (from + j) s), drop-drop k (from + j) s, f) (rw (l, a) at m)
+
+  pub up-step : (u : List ℕ) (k m : ℕ) → u ≡ put t (to + (i - k)) (take k (drop (from + (i - k)) t)) → k ≡ min i m → i ≤ n → u ≡ up s from to n (i - k)
+  up-step u k m q l h = q ∙ up-more k (omega arith) h
 
   pub up-end : i ≤ 0 → t ≡ put s to (take n (drop from s))
   unfolding up
@@ -104,4 +126,6 @@ module _ (s : List ℕ) (from to n : ℕ) where
           let k : to + n ≤ length s = within-so (length s) to n b e f in
           p ∙ sym (moved-in (omega arith) k)
 
-pub ruleset move-laws = (needs, down-none, down-more, down-end, up-none, up-more, up-end, within-so, moved-none-down, moved-none-up, moved-down, moved-up)
+pub ruleset step-laws = (needs, step-count, step-room, step-end)
+
+pub ruleset move-laws = (needs, down-none, down-step, down-end, up-none, up-step, up-end, within-so, moved-none-down, moved-none-up, moved-down, moved-up)

@@ -5,7 +5,7 @@ ghost use lib.ListN.{length};
 ghost use Rattle.strlib.specs.Store.{put};
 ghost use Rattle.moving.specs.Moving.{pasted};
 
-fn paste(store: &mut [u8], at: usize, bytes: &[u8])
+pub(super) fn paste(store: &mut [u8], at: usize, bytes: &[u8])
     requires { ⌜ at + length (now bytes) ≤ length (now store) ⌝ }
     ensures { λ _. ⌜ now (store .exit) ≡ put (now (store .entry)) at (now (bytes .entry)) ⌝ }
 {

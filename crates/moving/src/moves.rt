@@ -1,9 +1,24 @@
 // The one leaf through which characters are moved.
+use super::bytes::paste;
 ghost use mathlib.Core.Path.{_≡_};
 ghost use Prim.Native.Nat.{_+_, _≤_};
 ghost use lib.ListN.{length, take, drop};
 ghost use Rattle.strlib.specs.Store.{put};
 ghost use Rattle.moving.specs.Moving.{moved};
+
+// The most characters that a step moves: as many as are left, up to this. Longer steps take no less time.
+const STEP_MAX: usize = 1024;
+
+// A step: all are read before one is written, so that it is right for every distance. The compiler makes one call of
+// C's memmove of it; the block is not there any more.
+fn step(store: &mut [u8], from: usize, to: usize, n: usize)
+    requires { ⌜ (from + n ≤ length (now store)) × (to + n ≤ length (now store)) × (n ≤ 1024) ⌝ }
+    ensures { λ _. ⌜ now (store .exit) ≡ put (now (store .entry)) to (take n (drop from (now (store .entry)))) ⌝ }
+{
+    let mut block = [0u8; STEP_MAX];
+    paste(&mut block, 0, &store[from..from + n]);
+    paste(store, to, &block[..n]);
+}
 
 // From front to back, for a move towards the front.
 fn move_down(store: &mut [u8], from: usize, to: usize, n: usize)
@@ -12,8 +27,9 @@ fn move_down(store: &mut [u8], from: usize, to: usize, n: usize)
 {
     let mut i = 0;
     while i < n {
-        store[to + i] = store[from + i];
-        i += 1;
+        let k = super::least(n - i, STEP_MAX);
+        step(store, from + i, to + i, k);
+        i += k;
     }
 }
 
@@ -22,10 +38,11 @@ fn move_up(store: &mut [u8], from: usize, to: usize, n: usize)
     requires { ⌜ (to + n ≤ length (now store)) × (from ≤ to) ⌝ }
     ensures { λ _. ⌜ now (store .exit) ≡ put (now (store .entry)) to (take n (drop from (now (store .entry)))) ⌝ }
 {
-    let mut i = n;
-    while 0 < i {
-        i -= 1;
-        store[to + i] = store[from + i];
+    let mut left = n;
+    while 0 < left {
+        let k = super::least(left, STEP_MAX);
+        left -= k;
+        step(store, from + left, to + left, k);
     }
 }
 

@@ -19,9 +19,10 @@ move-down-spec =
     μ-loop
     (λ c. search move-laws)
     (λ c. search move-laws)
+    (λ c κs. tt)
     (λ c. search move-laws)
     (λ c. search move-laws)
-    (λ c. search move-laws)
+    (λ c κs. search move-laws)
     (λ c. search move-laws)
     (λ c. search move-laws)
     (λ c. search move-laws)

@@ -6,10 +6,10 @@ use Rattle.moving.proofs.moves.move_up.Statement.{statement}
 use Rattle.moving.proofs.moves.move_up.Tie as tie
 
 abbrev Inv-loop : tie.InvT-loop
-Inv-loop store₀ from to n i₀ store i = (i ≤ n) × (length store ≡ length store₀) × (store ≡ up store₀ from to n i)
+Inv-loop store₀ from to n left₀ store left = (left ≤ n) × (length store ≡ length store₀) × (store ≡ up store₀ from to n left)
 
 abbrev μ-loop : tie.MeasureT-loop
-μ-loop store₀ from to n i₀ store i = i
+μ-loop store₀ from to n left₀ store left = left
 
 pub move-up-spec : {M : Type 1} → statement M
 move-up-spec =
@@ -18,11 +18,11 @@ move-up-spec =
     Inv-loop
     μ-loop
     (λ c. search move-laws)
+    (λ c κs. tt)
     (λ c. search move-laws)
     (λ c. search move-laws)
     (λ c. search move-laws)
-    (λ c. search move-laws)
-    (λ c. search move-laws)
+    (λ c κs. search move-laws)
     (λ c. search move-laws)
     (λ c. search move-laws)
     (λ c. search move-laws)

@@ -1,0 +1,30 @@
+use mathlib.Core.Path.{_≡_}
+use Prim.Native.Nat.{_≤_, _-_}
+use lib.ListN.{length}
+use Rattle.moving.proofs.Moving.{down}
+use Rattle.old_and_new.proofs.Single.{single-laws}
+use Rattle.old_and_new.proofs.old.move_down.Statement.{statement}
+use Rattle.old_and_new.proofs.old.move_down.Tie as tie
+
+abbrev Inv-loop : tie.InvT-loop
+Inv-loop store₀ from to n i₀ store i = (i ≤ n) × (length store ≡ length store₀) × (store ≡ down store₀ from to i)
+
+abbrev μ-loop : tie.MeasureT-loop
+μ-loop store₀ from to n i₀ store i = n - i
+
+pub move-down-spec : {M : Type 1} → statement M
+move-down-spec =
+    tie.close
+    (tie.spec
+    Inv-loop
+    μ-loop
+    (λ c. search single-laws)
+    (λ c. search single-laws)
+    (λ c. search single-laws)
+    (λ c. search single-laws)
+    (λ c. search single-laws)
+    (λ c. search single-laws)
+    (λ c. search single-laws)
+    (λ c. search single-laws)
+    (λ c. search single-laws)
+    (λ c. search single-laws))

@@ -1,0 +1,98 @@
+/* With JOBS defined: what one library is timed at. Without: the run that times two of them, and C, in turns. */
+#include <stdint.h>
+#include <string.h>
+
+#define STORE 65536
+
+#ifdef JOBS
+#include "strlib.h"
+
+static strlib_ptr full(size_t start, size_t length) { return (strlib_ptr){start, length, length}; }
+
+static strlib_list all(strlib_ptr string)
+{
+    strlib_list list = {.count = STRLIB_LIST_MAX};
+    for (size_t i = 0; i < STRLIB_LIST_MAX; i++)
+        list.items[i] = string;
+    return list;
+}
+
+/* job 0: 32 strings of n joined; 1: n copied; 2, 3: a character put in front of n, taken from the front of n */
+int JOBS(uint8_t *store, int job, size_t n)
+{
+    switch (job) {
+    case 0: return strlib_join(store, STORE, (strlib_ptr){0, 0, 60000}, all(full(60000, n)), false).refusal;
+    case 1: return strlib_copy(store, STORE, (strlib_ptr){0, 0, n}, full(30000, n), false).refusal;
+    case 2: return strlib_replace(store, STORE, (strlib_ptr){0, n, n + 1}, full(0, 0), full(65000, 1)).refusal;
+    default: return strlib_replace(store, STORE, (strlib_ptr){0, n, n}, full(0, 1), full(65000, 0)).refusal;
+    }
+}
+#else
+#include <stdio.h>
+#include <stdlib.h>
+#include <time.h>
+
+int old(uint8_t *store, int job, size_t n);
+int new(uint8_t *store, int job, size_t n);
+
+static int c(uint8_t *store, int job, size_t n)
+{
+    switch (job) {
+    case 0:
+        for (size_t i = 0; i < 32; i++)
+            memcpy(store + i * n, store + 60000, n);
+        break;
+    case 1: memcpy(store, store + 30000, n); break;
+    case 2: memmove(store + 1, store, n); break;
+    default: memmove(store, store + 1, n - 1);
+    }
+    __asm__ volatile("" : : "r"(store) : "memory");
+    return 0;
+}
+
+static double now(void)
+{
+    struct timespec t;
+    clock_gettime(CLOCK_MONOTONIC, &t);
+    return 1e9 * (double)t.tv_sec + (double)t.tv_nsec;
+}
+
+int main(void)
+{
+    static int (*const sides[3])(uint8_t *, int, size_t) = {old, new, c};
+    static const struct { const char *name; int job; size_t n; } jobs[] = {
+        {"join of 32 strings of 1", 0, 1},
+        {"join of 32 strings of 8", 0, 8},
+        {"join of 32 strings of 64", 0, 64},
+        {"join of 32 strings of 240", 0, 240},
+        {"join of 32 strings of 1,875: 60,000", 0, 1875},
+        {"copy of 8", 1, 8},
+        {"copy of 30,000", 1, 30000},
+        {"a character put in front of 60,000", 2, 60000},
+        {"a character taken from the front of 60,000", 3, 60000},
+    };
+    uint8_t *store = malloc(STORE);
+    if (!store)
+        return 1;
+    memset(store, 'a', STORE);
+    for (size_t j = 0; j < sizeof jobs / sizeof *jobs; j++) {
+        double least[3] = {1e18, 1e18, 1e18};
+        int calls = jobs[j].n < 1000 ? 64 : 1;
+        for (int round = 0; round < 2000; round++)
+            for (int side = 0; side < 3; side++) {
+                double from = now();
+                for (int k = 0; k < calls; k++)
+                    if (sides[side](store, jobs[j].job, jobs[j].n)) {
+                        fprintf(stderr, "beside: refused\n");
+                        return 1;
+                    }
+                double took = (now() - from) / calls;
+                if (took < least[side])
+                    least[side] = took;
+            }
+        printf("%s|%.1f|%.1f|%.1f\n", jobs[j].name, least[0], least[1], least[2]);
+    }
+    free(store);
+    return 0;
+}
+#endif

@@ -1,4 +1,5 @@
-/* With JOBS defined: what one library is timed at. Without: the run that times two of them, and C, in turns. */
+/* With JOBS defined: the calls that are timed, of one library. Without: the run that times two libraries, and C, in
+ * turns, after it has seen that both leave the same bytes. */
 #include <stdint.h>
 #include <string.h>
 
@@ -9,11 +10,15 @@
 
 static strlib_ptr full(size_t start, size_t length) { return (strlib_ptr){start, length, length}; }
 
-static strlib_list all(strlib_ptr string)
+/* The list is made once for each length; that it is passed by value is part of the call. */
+static strlib_list all(size_t n)
 {
-    strlib_list list = {.count = STRLIB_LIST_MAX};
-    for (size_t i = 0; i < STRLIB_LIST_MAX; i++)
-        list.items[i] = string;
+    static strlib_list list;
+    if (list.count == 0 || list.items[0].length != n) {
+        list.count = STRLIB_LIST_MAX;
+        for (size_t i = 0; i < STRLIB_LIST_MAX; i++)
+            list.items[i] = full(60000, n);
+    }
     return list;
 }
 
@@ -21,7 +26,7 @@ static strlib_list all(strlib_ptr string)
 int JOBS(uint8_t *store, int job, size_t n)
 {
     switch (job) {
-    case 0: return strlib_join(store, STORE, (strlib_ptr){0, 0, 60000}, all(full(60000, n)), false).refusal;
+    case 0: return strlib_join(store, STORE, (strlib_ptr){0, 0, 60000}, all(n), false).refusal;
     case 1: return strlib_copy(store, STORE, (strlib_ptr){0, 0, n}, full(30000, n), false).refusal;
     case 2: return strlib_replace(store, STORE, (strlib_ptr){0, n, n + 1}, full(0, 0), full(65000, 1)).refusal;
     default: return strlib_replace(store, STORE, (strlib_ptr){0, n, n}, full(0, 1), full(65000, 0)).refusal;
@@ -35,6 +40,7 @@ int JOBS(uint8_t *store, int job, size_t n)
 int old(uint8_t *store, int job, size_t n);
 int new(uint8_t *store, int job, size_t n);
 
+/* The same bytes moved, and nothing checked. */
 static int c(uint8_t *store, int job, size_t n)
 {
     switch (job) {
@@ -43,12 +49,17 @@ static int c(uint8_t *store, int job, size_t n)
             memcpy(store + i * n, store + 60000, n);
         break;
     case 1: memcpy(store, store + 30000, n); break;
-    case 2: memmove(store + 1, store, n); break;
+    case 2:
+        memmove(store + 1, store, n);
+        store[0] = store[65000];
+        break;
     default: memmove(store, store + 1, n - 1);
     }
     __asm__ volatile("" : : "r"(store) : "memory");
     return 0;
 }
+
+static int (*const sides[3])(uint8_t *, int, size_t) = {old, new, c};
 
 static double now(void)
 {
@@ -57,9 +68,25 @@ static double now(void)
     return 1e9 * (double)t.tv_sec + (double)t.tv_nsec;
 }
 
+/* Whether all three leave the same bytes. */
+static int alike(uint8_t *store, int job, size_t n)
+{
+    static uint8_t first[STORE];
+    for (int side = 0; side < 3; side++) {
+        for (size_t i = 0; i < STORE; i++)
+            store[i] = (uint8_t)(i % 127);
+        if (sides[side](store, job, n))
+            return 0;
+        if (side == 0)
+            memcpy(first, store, STORE);
+        if (memcmp(first, store, STORE) != 0)
+            return 0;
+    }
+    return 1;
+}
+
 int main(void)
 {
-    static int (*const sides[3])(uint8_t *, int, size_t) = {old, new, c};
     static const struct { const char *name; int job; size_t n; } jobs[] = {
         {"join of 32 strings of 1", 0, 1},
         {"join of 32 strings of 8", 0, 8},
@@ -74,18 +101,19 @@ int main(void)
     uint8_t *store = malloc(STORE);
     if (!store)
         return 1;
-    memset(store, 'a', STORE);
     for (size_t j = 0; j < sizeof jobs / sizeof *jobs; j++) {
         double least[3] = {1e18, 1e18, 1e18};
-        int calls = jobs[j].n < 1000 ? 64 : 1;
+        int calls = jobs[j].n < 1000 ? 64 : 8;
+        if (!alike(store, jobs[j].job, jobs[j].n)) {
+            fprintf(stderr, "beside: %s: refused, or other bytes\n", jobs[j].name);
+            return 1;
+        }
         for (int round = 0; round < 2000; round++)
-            for (int side = 0; side < 3; side++) {
+            for (int turn = 0; turn < 3; turn++) {
+                int side = (round + turn) % 3;
                 double from = now();
                 for (int k = 0; k < calls; k++)
-                    if (sides[side](store, jobs[j].job, jobs[j].n)) {
-                        fprintf(stderr, "beside: refused\n");
-                        return 1;
-                    }
+                    sides[side](store, jobs[j].job, jobs[j].n);
                 double took = (now() - from) / calls;
                 if (took < least[side])
                     least[side] = took;

@@ -1,6 +1,6 @@
 -- Laws of the moving leaf. What is moved is what `put` writes, some bytes more each step: behind it for a move towards
 -- the front, in front of it for a move towards the back; the bytes still to be read are as they were. Assumes nothing.
-use mathlib.Core.Path.{_≡_, sym, ap, _∙_}
+use mathlib.Core.Path.{_≡_, sym, _∙_}
 use mathlib.Core.Bool.{Bool, true, false, and-false}
 use mathlib.Core.List.{List, _++_}
 use Prim.Native.Nat.{ℕ, _+_, _-_, _≤_, _<_, min}
@@ -12,7 +12,7 @@ use borrow.Author.Needs.{needs}
 use Rattle.strlib.specs.Pointer.{within}
 use Rattle.strlib.specs.Store.{put}
 use Rattle.strlib.proofs.Pointing.{within-so, is-within}
-use Rattle.strlib.proofs.Storing.{put-none, put-put, put-before, part-put, part-before, part-after, put-length}
+use Rattle.strlib.proofs.Storing.{put-none, put-put, put-before, part-put, part-before, part-after}
 use Rattle.moving.specs.Moving.{moved}
 
 -- ---- one step
@@ -20,8 +20,9 @@ use Rattle.moving.specs.Moving.{moved}
 part-length : (s : List ℕ) (at n : ℕ) → at + n ≤ length s → length (take n (drop at s)) ≡ n
 part-length s at n h = rw (length-take, length-drop) (omega arith)
 
--- what was read stands in front in the block b, and is read back
-module _ (s b t : List ℕ) (from to n : ℕ) (e : t ≡ put b 0 (take (from + n - from) (drop from s))) (hf : from + n ≤ length s) (hb : n ≤ length b) where
+-- a part of the store s, from `from` to `from + n`, is put in front in the block b; of t, the block then, the first n
+-- bytes are what was read
+module _ (s b t : List ℕ) (from to n : ℕ) (e : t ≡ put b 0 (take (from + n - from) (drop from s))) (hf : from + n ≤ length s) where
   step-read : take n t ≡ take n (drop from s)
   step-read =
       let xs : List ℕ = take n (drop from s) in
@@ -39,7 +40,7 @@ module _ (s b t : List ℕ) (from to n : ℕ) (e : t ≡ put b 0 (take (from + n
   pub step-end : (u : List ℕ) → u ≡ put s to (take n t) → u ≡ put s to (take n (drop from s))
   step-end u h = h ∙ rw step-read
 
--- ---- the two loops, whatever the width k of a step
+-- ---- the two loops, whatever the width k of a step and its greatest width m
 
 -- i bytes moved from the front on
 unfoldable pub down : List ℕ → ℕ → ℕ → ℕ → List ℕ

@@ -1,4 +1,4 @@
-// Bytes from elsewhere written into a store.
+// Bytes written into a store, or into the block of a step.
 ghost use mathlib.Core.Path.{_≡_};
 ghost use Prim.Native.Nat.{_+_, _≤_};
 ghost use lib.ListN.{length};

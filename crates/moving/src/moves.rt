@@ -6,11 +6,10 @@ ghost use lib.ListN.{length, take, drop};
 ghost use Rattle.strlib.specs.Store.{put};
 ghost use Rattle.moving.specs.Moving.{moved};
 
-// The most characters that a step moves: as many as are left, up to this. Longer steps take no less time.
+// The most characters that a step moves; `step` asks for it as 1024. Larger ones make no move faster (docs/BENCH.md).
 const STEP_MAX: usize = 1024;
 
-// A step: all are read before one is written, so that it is right for every distance. The compiler makes one call of
-// C's memmove of it; the block is not there any more.
+// A step: all characters are read before one is written, so that it is right for every distance.
 fn step(store: &mut [u8], from: usize, to: usize, n: usize)
     requires { ⌜ (from + n ≤ length (now store)) × (to + n ≤ length (now store)) × (n ≤ 1024) ⌝ }
     ensures { λ _. ⌜ now (store .exit) ≡ put (now (store .entry)) to (take n (drop from (now (store .entry)))) ⌝ }
@@ -20,7 +19,7 @@ fn step(store: &mut [u8], from: usize, to: usize, n: usize)
     paste(store, to, &block[..n]);
 }
 
-// From front to back, for a move towards the front.
+// From front to back, for a move towards the front. Each step moves all that is left, STEP_MAX at most.
 fn move_down(store: &mut [u8], from: usize, to: usize, n: usize)
     requires { ⌜ (from + n ≤ length (now store)) × (to ≤ from) ⌝ }
     ensures { λ _. ⌜ now (store .exit) ≡ put (now (store .entry)) to (take n (drop from (now (store .entry)))) ⌝ }
@@ -33,7 +32,7 @@ fn move_down(store: &mut [u8], from: usize, to: usize, n: usize)
     }
 }
 
-// From back to front, for a move towards the back.
+// From back to front, for a move towards the back. Each step moves all that is left, STEP_MAX at most.
 fn move_up(store: &mut [u8], from: usize, to: usize, n: usize)
     requires { ⌜ (to + n ≤ length (now store)) × (from ≤ to) ⌝ }
     ensures { λ _. ⌜ now (store .exit) ≡ put (now (store .entry)) to (take n (drop from (now (store .entry)))) ⌝ }

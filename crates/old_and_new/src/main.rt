@@ -1,13 +1,16 @@
-// 02, W3: the loops of before beside today's leaf. Each move is made twice, over the same bytes; a line for each length
-// says whether the stores are alike to the last byte, and has a sum over them, so that it also shows what was moved.
-// Distances go up to nine, and lie about 64 and about the most that a step moves, as the lengths do; each move stands
-// once at the store's front and once at its end, towards the front and towards the back.
+// 02, W3: the loops of before beside today's leaf. Each move is made by both, over the same bytes; a line for each
+// length says whether the two stores are then alike to the last byte, and has a sum over the store, so that what is
+// printed also depends on what was moved.
+//
+// Of each length the moves go by 0 to 9, 63 to 65 and 1,023 to 1,025 places, by so many less than the length (then the
+// two places share as many bytes), and from one end of the store to the other: towards the front and towards the back,
+// at the store's front and at its end. The lengths lie about 64, 128 and the most that one and two steps move.
 mod old;
 
 use saying::say;
 use saying::say_number;
 
-// The bytes of the store in which they are moved.
+// The bytes of a store here.
 const STORE: usize = 4096;
 
 const LENGTHS: [usize; 33] = [
@@ -48,13 +51,14 @@ const LENGTHS: [usize; 33] = [
 
 const DISTANCES: [usize; 16] = [0, 1, 2, 3, 4, 5, 6, 7, 8, 9, 63, 64, 65, 1023, 1024, 1025];
 
-// Whether all moves so far left the same bytes, and a sum over those.
+// Of all moves so far: whether both left the same bytes, whether none wrote anything, and a sum.
 struct Seen {
     alike: bool,
+    still: bool,
     sum: usize,
 }
 
-// No two places that are moved between hold the same bytes.
+// Neighbours differ, and so do bytes that lie up to 250 places from each other.
 fn paint(store: &mut [u8]) {
     let mut i = 0;
     while i < store.len() {
@@ -63,6 +67,7 @@ fn paint(store: &mut [u8]) {
     }
 }
 
+// A sum in which the place of a byte counts.
 fn weigh_one(sum: usize, x: u8) -> usize {
     (31 * (sum % 65521) + x as usize) % 65521
 }
@@ -78,14 +83,16 @@ fn weigh(sum: usize, bytes: &[u8]) -> usize {
 }
 
 fn trial(seen: Seen, from: usize, to: usize, n: usize) -> Seen {
-    let mut old = [0u8; STORE];
-    paint(&mut old);
-    let mut new = old;
-    old::move_characters(&mut old, from, to, n);
-    moving::move_characters(&mut new, from, to, n);
-    let alike = strlib::both(seen.alike, words::are_same(&old, &new));
-    let sum = weigh(seen.sum, &new);
-    Seen { alike, sum }
+    let mut before = [0u8; STORE];
+    paint(&mut before);
+    let mut by_old = before;
+    let mut by_new = before;
+    old::move_characters(&mut by_old, from, to, n);
+    moving::move_characters(&mut by_new, from, to, n);
+    let alike = strlib::both(seen.alike, words::are_same(&by_old, &by_new));
+    let still = strlib::both(seen.still, words::are_same(&before, &by_new));
+    let sum = weigh(seen.sum, &by_new);
+    Seen { alike, still, sum }
 }
 
 fn at_distance(seen: Seen, n: usize, d: usize) -> Seen {
@@ -101,24 +108,48 @@ fn at_distance(seen: Seen, n: usize, d: usize) -> Seen {
     seen
 }
 
+// By k places, and by as many that k bytes are shared.
+fn at_both(seen: Seen, n: usize, k: usize) -> Seen {
+    let seen = at_distance(seen, n, k);
+    if k <= n {
+        return at_distance(seen, n, n - k);
+    }
+    seen
+}
+
+fn end_to_end(seen: Seen, n: usize) -> Seen {
+    if n <= STORE {
+        return at_distance(seen, n, STORE - n);
+    }
+    seen
+}
+
 fn say_seen(seen: Seen) {
     if seen.alike {
         say(b": alike,");
     } else {
         say(b": NOT ALIKE,");
     }
+    if seen.still {
+        say(b" nothing written,");
+    }
     say_number(seen.sum);
     say(b"\n");
 }
 
-fn of_length(n: usize) {
-    let mut seen = Seen {
+fn nothing_yet() -> Seen {
+    Seen {
         alike: true,
+        still: true,
         sum: 0,
-    };
+    }
+}
+
+fn of_length(n: usize) {
+    let mut seen = end_to_end(nothing_yet(), n);
     let mut k = 0;
     while k < 16 {
-        seen = at_distance(seen, n, DISTANCES[k]);
+        seen = at_both(seen, n, DISTANCES[k]);
         k += 1;
     }
     say(b"length");
@@ -126,13 +157,10 @@ fn of_length(n: usize) {
     say_seen(seen);
 }
 
-// Outside the store nothing is written; the last sums wrap round.
+// Places outside the store: one byte too far, then so far that place and length wrap round.
 fn outside() {
     let most = 18446744073709551615;
-    let seen = Seen {
-        alike: true,
-        sum: 0,
-    };
+    let seen = nothing_yet();
     let seen = trial(seen, STORE - 7, 0, 8);
     let seen = trial(seen, 0, STORE - 7, 8);
     let seen = trial(seen, STORE, 0, 1);

@@ -19,39 +19,44 @@ pub fn all() {
     numbers();
 }
 
-/// 32 strings of 1,875 characters into one of 60,000.
+/// 32 strings into one, of 60,000 characters at most.
 fn joins() {
-    let mut store = vec![b'a'; 61_875];
-    let list = StrList::new(&[full(60_000, 1_875); 32]);
-    let ours = best(|| {
-        strlib::join(
-            black_box(&mut store),
-            full(0, 60_000),
-            black_box(&list),
-            false,
-        )
-        .unwrap();
-    });
-    let mut bytes = vec![b'a'; 61_875];
-    let theirs = best(|| {
-        let at = black_box(&mut bytes).as_mut_ptr();
-        for i in 0..32 {
-            // 32 pieces of 1,875 bytes are the first 60,000, and the source lies behind them
-            unsafe {
-                memcpy(
-                    at.add(1_875 * i).cast(),
-                    at.add(60_000).cast(),
-                    black_box(1_875),
+    for (length, what) in [
+        (1_875, "join of 32 strings, 60,000 characters"),
+        (64, "join of 32 strings of 64"),
+        (8, "join of 32 strings of 8"),
+    ] {
+        let mut store = vec![b'a'; 61_875];
+        let list = StrList::new(&[full(60_000, length); 32]);
+        let ours = best(|| {
+            for _ in 0..10 {
+                strlib::join(
+                    black_box(&mut store),
+                    full(0, 60_000),
+                    black_box(&list),
+                    false,
                 )
-            };
-        }
-    });
-    row(
-        "join of 32 strings, 60,000 characters",
-        "memcpy of the same",
-        ours,
-        theirs,
-    );
+                .unwrap();
+            }
+        });
+        let mut bytes = vec![b'a'; 61_875];
+        let theirs = best(|| {
+            for _ in 0..10 {
+                let at = black_box(&mut bytes).as_mut_ptr();
+                for i in 0..32 {
+                    // 32 pieces are the first 60,000 at most, and the source lies behind them
+                    unsafe {
+                        memcpy(
+                            at.add(length * i).cast(),
+                            at.add(60_000).cast(),
+                            black_box(length),
+                        )
+                    };
+                }
+            }
+        });
+        row(what, "memcpy of the same", ours, theirs);
+    }
 }
 
 fn copies() {

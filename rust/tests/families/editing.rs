@@ -100,6 +100,44 @@ fn edits_as_the_document_says() {
     tally.expect("reverse_from", &[1, 2, 3, 5, 6], &[]);
 }
 
+/// 02, W3: a tail of each length moved by each distance, towards the back (characters put in front of it) and towards the
+/// front (taken out again), the string at the store's front and at its end.
+#[test]
+fn a_tail_moves_by_any_distance() {
+    let near =
+        |places: &[usize]| -> Vec<usize> { places.iter().flat_map(|&k| k - 1..=k + 1).collect() };
+    let lengths = [(0..=17).collect(), near(&[64, 128, 1_024, 2_048])].concat();
+    let distances = [(1..=9).collect(), near(&[64, 1_024])].concat();
+    for &length in &lengths {
+        for &distance in &distances {
+            let n = length + 2 * distance;
+            let store: Vec<u8> = (0..n).map(|i| (i % 127) as u8).collect();
+            // the string, then what is put in front of it; or the other way round
+            for (start, other) in [(0, length + distance), (distance, 0)] {
+                let other = StrPtr::new(other, distance, distance);
+                let room = StrPtr::new(start, length, length + distance);
+                let front = StrPtr::new(start, 0, 0);
+                let (mut want, mut got) = (store.clone(), store.clone());
+                let said = editing::replace(&mut want, room, front, other);
+                assert_eq!(strlib::replace(&mut got, room, front, other), said);
+                assert!(
+                    got == want,
+                    "{length} towards the back by {distance}, at {start}"
+                );
+                let longer = said.expect("there is room");
+                let front = StrPtr::new(start, distance, distance);
+                let nothing = StrPtr::new(other.start, 0, 0);
+                let said = editing::replace(&mut want, longer, front, nothing);
+                assert_eq!(strlib::replace(&mut got, longer, front, nothing), said);
+                assert!(
+                    got == want,
+                    "{length} towards the front by {distance}, at {start}"
+                );
+            }
+        }
+    }
+}
+
 #[test]
 fn a_shorter_text_leaves_the_bytes_past_it() {
     let mut store = *b"4321";

@@ -6,7 +6,7 @@ ghost use lib.ListN.{length, take, drop};
 ghost use Rattle.strlib.specs.Store.{put};
 ghost use Rattle.moving.specs.Moving.{moved};
 
-// The most characters that a step moves; `step` asks for it as 1024. Larger ones make no move faster (docs/BENCH.md).
+// The most characters that a step moves; `step` asks for it as 1024. Larger ones gain next to nothing (docs/BENCH.md).
 const STEP_MAX: usize = 1024;
 
 // A step: all characters are read before one is written, so that it is right for every distance.

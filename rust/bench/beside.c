@@ -10,16 +10,16 @@
 
 static strlib_ptr full(size_t start, size_t length) { return (strlib_ptr){start, length, length}; }
 
-/* The list is made once for each length; that it is passed by value is part of the call. */
+/* The list of a length is made once; that it is passed by value is part of the call. */
 static strlib_list all(size_t n)
 {
-    static strlib_list list;
-    if (list.count == 0 || list.items[0].length != n) {
-        list.count = STRLIB_LIST_MAX;
+    static strlib_list lists[1876];
+    if (lists[n].count == 0) {
+        lists[n].count = STRLIB_LIST_MAX;
         for (size_t i = 0; i < STRLIB_LIST_MAX; i++)
-            list.items[i] = full(60000, n);
+            lists[n].items[i] = full(60000, n);
     }
-    return list;
+    return lists[n];
 }
 
 /* job 0: 32 strings of n joined; 1: n copied; 2, 3: a character put in front of n, taken from the front of n */
@@ -87,34 +87,39 @@ static int alike(uint8_t *store, int job, size_t n)
 
 int main(void)
 {
-    static const struct { const char *name; int job; size_t n; } jobs[] = {
-        {"join of 32 strings of 1", 0, 1},
-        {"join of 32 strings of 8", 0, 8},
-        {"join of 32 strings of 64", 0, 64},
-        {"join of 32 strings of 240", 0, 240},
-        {"join of 32 strings of 1,875: 60,000", 0, 1875},
-        {"copy of 8", 1, 8},
-        {"copy of 30,000", 1, 30000},
-        {"a character put in front of 60,000", 2, 60000},
-        {"a character taken from the front of 60,000", 3, 60000},
+    /* from n to `to`: the mean over these lengths */
+    static const struct { const char *name; int job; size_t n, to; } jobs[] = {
+        {"join of 32 strings of 1", 0, 1, 1},
+        {"join of 32 strings of 8", 0, 8, 8},
+        {"join of 32 strings of 64", 0, 64, 64},
+        {"join of 32 strings, each length 1 to 16", 0, 1, 16},
+        {"join of 32 strings, each length 17 to 240", 0, 17, 240},
+        {"join of 32 strings of 1,875: 60,000", 0, 1875, 1875},
+        {"copy of 8", 1, 8, 8},
+        {"copy of 30,000", 1, 30000, 30000},
+        {"a character put in front of 60,000", 2, 60000, 60000},
+        {"a character taken from the front of 60,000", 3, 60000, 60000},
     };
     uint8_t *store = malloc(STORE);
     if (!store)
         return 1;
     for (size_t j = 0; j < sizeof jobs / sizeof *jobs; j++) {
         double least[3] = {1e18, 1e18, 1e18};
-        int calls = jobs[j].n < 1000 ? 64 : 8;
-        if (!alike(store, jobs[j].job, jobs[j].n)) {
-            fprintf(stderr, "beside: %s: refused, or other bytes\n", jobs[j].name);
-            return 1;
-        }
+        size_t lengths = jobs[j].to - jobs[j].n + 1;
+        size_t calls = jobs[j].n < 1000 ? 1 + 63 / lengths : 8;
+        for (size_t n = jobs[j].n; n <= jobs[j].to; n++)
+            if (!alike(store, jobs[j].job, n)) {
+                fprintf(stderr, "beside: %s: refused, or other bytes\n", jobs[j].name);
+                return 1;
+            }
         for (int round = 0; round < 2000; round++)
             for (int turn = 0; turn < 3; turn++) {
                 int side = (round + turn) % 3;
                 double from = now();
-                for (int k = 0; k < calls; k++)
-                    sides[side](store, jobs[j].job, jobs[j].n);
-                double took = (now() - from) / calls;
+                for (size_t k = 0; k < calls; k++)
+                    for (size_t n = jobs[j].n; n <= jobs[j].to; n++)
+                        sides[side](store, jobs[j].job, n);
+                double took = (now() - from) / (double)(calls * lengths);
                 if (took < least[side])
                     least[side] = took;
             }

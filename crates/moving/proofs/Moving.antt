@@ -3,16 +3,16 @@
 use mathlib.Core.Path.{_≡_, sym, _∙_}
 use mathlib.Core.Bool.{Bool, true, false, and-false}
 use mathlib.Core.List.{List, _++_}
-use Prim.Native.Nat.{ℕ, _+_, _-_, _≤_, _<_, min}
+use Prim.Native.Nat.{ℕ, _+_, _-_, _≤_, _<_}
 use native.Mathlib.Nat.{sub-self, add-zero, sub-zero}
 use native.Mathlib.Omega.{arith}
 use lib.ListN.{length, take, drop, length-take, length-drop}
-use lib.Seq.{take-add, drop-drop}
+use lib.Seq.{take-add, take-all, drop-drop}
 use borrow.Author.Needs.{needs}
 use Rattle.strlib.specs.Pointer.{within}
 use Rattle.strlib.specs.Store.{put}
 use Rattle.strlib.proofs.Pointing.{within-so, is-within}
-use Rattle.strlib.proofs.Storing.{put-none, put-put, put-before, part-put, part-before, part-after}
+use Rattle.strlib.proofs.Storing.{put-none, put-put, put-before, part-put, part-before, part-after, put-length}
 use Rattle.moving.specs.Moving.{moved}
 
 -- ---- one step
@@ -20,27 +20,24 @@ use Rattle.moving.specs.Moving.{moved}
 part-length : (s : List ℕ) (at n : ℕ) → at + n ≤ length s → length (take n (drop at s)) ≡ n
 part-length s at n h = rw (length-take, length-drop) (omega arith)
 
--- a part of the store s, from `from` to `from + n`, is put in front in the block b; of t, the block then, the first n
--- bytes are what was read
-module _ (s b t : List ℕ) (from to n : ℕ) (e : t ≡ put b 0 (take (from + n - from) (drop from s))) (hf : from + n ≤ length s) where
-  step-read : take n t ≡ take n (drop from s)
+-- a part of the store s, from `from` on, is put over the whole block b; t, the block then, is what was read
+module _ (s b t : List ℕ) (from to : ℕ) (e : t ≡ put b 0 (take (from + length b - from) (drop from s))) (hf : from + length b ≤ length s) where
+  step-read : t ≡ take (length b) (drop from s)
   step-read =
-      let xs : List ℕ = take n (drop from s) in
-      let j : from + n - from ≡ n = omega arith in
-      let l : length xs ≡ n = part-length s from n hf in
+      let xs : List ℕ = take (length b) (drop from s) in
+      let j : from + length b - from ≡ length b = omega arith in
+      let l : length xs ≡ length b = part-length s from (length b) hf in
+      let m : length (put b 0 xs) ≡ length b = put-length b 0 xs (omega arith) in
       let p : take (length xs) (drop 0 (put b 0 xs)) ≡ xs = part-put b 0 xs (omega arith) in
-      rw (e, j) (rw l at p)
+      rw (e, j) (sym (take-all (length xs) (put b 0 xs) (omega arith)) ∙ p)
 
-  pub step-count : n ≡ length (take n t)
-  step-count = sym (rw step-read (part-length s from n hf))
+  pub step-room : to + length b ≤ length s → to + length t ≤ length s
+  step-room h = let l : length t ≡ length b = rw step-read (part-length s from (length b) hf) in omega arith
 
-  pub step-room : to + n ≤ length s → to + length (take n t) ≤ length s
-  step-room h = rw (← step-count) h
-
-  pub step-end : (u : List ℕ) → u ≡ put s to (take n t) → u ≡ put s to (take n (drop from s))
+  pub step-end : (u : List ℕ) → u ≡ put s to t → u ≡ put s to (take (length b) (drop from s))
   step-end u h = h ∙ rw step-read
 
--- ---- the two loops, whatever the width k of a step and its greatest width m
+-- ---- the two loops, whatever the width k of a step
 
 -- i bytes moved from the front on
 unfoldable pub down : List ℕ → ℕ → ℕ → ℕ → List ℕ
@@ -65,12 +62,12 @@ module _ (s t : List ℕ) (from to n i : ℕ) (e : t ≡ down s from to i) (hf :
       let m : put (put s to xs) (to + length xs) zs ≡ put s to (xs ++ zs) = put-put s to xs (omega arith) zs in
       rw (r, e, take-add i k (drop from s), drop-drop i from s) (rw l at m)
 
-  pub down-step : (u : List ℕ) (k m : ℕ) → u ≡ put t (to + i) (take k (drop (from + i) t)) → k ≡ min (n - i) m → i < n → u ≡ down s from to (i + k)
-  down-step u k m q l h = q ∙ down-more k (omega arith)
+  pub down-step : (u : List ℕ) (k : ℕ) → u ≡ put t (to + i) (take k (drop (from + i) t)) → k ≤ n - i → i ≤ n → u ≡ down s from to (i + k)
+  down-step u k q l h = q ∙ down-more k (omega arith)
 
-  pub down-end : n ≤ i → i ≤ n → t ≡ put s to (take n (drop from s))
+  pub down-is : t ≡ put s to (take i (drop from s))
   unfolding down
-  down-end h k = let j : i ≡ n = omega arith in e ∙ rw j
+  down-is = e
 
 pub up-none : (s : List ℕ) (from to n : ℕ) → s ≡ up s from to n n
 unfolding up
@@ -92,12 +89,33 @@ module _ (s t : List ℕ) (from to n i : ℕ) (e : t ≡ up s from to n i) (ht :
       let m : put (put s (to + j + length xs) ys) (to + j) xs ≡ put s (to + j) (xs ++ ys) = put-before s (to + j) xs ys (omega arith) in
       rw (r, e, b, take-add k (n - i) (drop (from + j) s), drop-drop k (from + j) s, f) (rw (l, a) at m)
 
-  pub up-step : (u : List ℕ) (k m : ℕ) → u ≡ put t (to + (i - k)) (take k (drop (from + (i - k)) t)) → k ≡ min i m → i ≤ n → u ≡ up s from to n (i - k)
-  up-step u k m q l h = q ∙ up-more k (omega arith) h
+  pub up-step : (u : List ℕ) (k : ℕ) → u ≡ put t (to + (i - k)) (take k (drop (from + (i - k)) t)) → k ≤ i → i ≤ n → u ≡ up s from to n (i - k)
+  up-step u k q l h = q ∙ up-more k l h
 
-  pub up-end : i ≤ 0 → t ≡ put s to (take n (drop from s))
+  pub up-is : t ≡ put s (to + i) (take (n - i) (drop (from + i) s))
   unfolding up
-  up-end h = let z : i ≡ 0 = omega arith in e ∙ rw (z, add-zero to, add-zero from, sub-zero)
+  up-is = e
+
+-- ---- the two moves: steps of eight, then of one
+
+module _ (s t u : List ℕ) (from to n : ℕ) where
+  -- i are moved, then m of those left, which are all
+  pub down-end : (i m : ℕ) → t ≡ put s to (take i (drop from s)) → u ≡ put t (to + i) (take m (drop (from + i) t)) → from + n ≤ length s → to ≤ from → i ≤ n → m ≤ n - i → n - i < m + 1
+      → u ≡ put s to (take n (drop from s))
+  unfolding down
+  down-end i m e q hf ht h k l =
+      let j : i + m ≡ n = omega arith in
+      q ∙ down-more s t from to n i e hf ht m (omega arith) ∙ rw j
+
+  -- all but i are moved, then those but m, which is none
+  pub up-end : (i m : ℕ) → t ≡ put s (to + i) (take (n - i) (drop (from + i) s)) → u ≡ put t (to + m) (take (i - m) (drop (from + m) t)) → to + n ≤ length s → from ≤ to → i ≤ n → m ≤ i → m < 1
+      → u ≡ put s to (take n (drop from s))
+  unfolding up
+  up-end i m e q ht hf h k l =
+      let z : m ≡ 0 = omega arith in
+      let y : i - i ≡ 0 = sub-self i in
+      let w : put t (to + (i - i)) (take i (drop (from + (i - i)) t)) ≡ put s (to + (i - i)) (take (n - (i - i)) (drop (from + (i - i)) s)) = up-more s t from to n i e ht hf i (omega arith) h in
+      q ∙ rw (z, sub-zero, add-zero to, add-zero from) (rw (y, add-zero to, add-zero from, sub-zero) at w)
 
 -- ---- the leaf
 
@@ -127,6 +145,10 @@ module _ (s : List ℕ) (from to n : ℕ) where
           let k : to + n ≤ length s = within-so (length s) to n b e f in
           p ∙ sym (moved-in (omega arith) k)
 
-pub ruleset step-laws = (needs, step-count, step-room, step-end)
+pub ruleset step-laws = (needs, step-room, step-end)
 
-pub ruleset move-laws = (needs, down-none, down-step, down-end, up-none, up-step, up-end, within-so, moved-none-down, moved-none-up, moved-down, moved-up)
+pub ruleset down-laws = (needs, down-none, down-step, down-is)
+
+pub ruleset up-laws = (needs, up-none, up-step, up-is)
+
+pub ruleset move-laws = (needs, down-end, up-end, within-so, moved-none-down, moved-none-up, moved-down, moved-up)

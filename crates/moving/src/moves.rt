@@ -1,48 +1,69 @@
 // The one leaf through which characters are moved.
 use super::bytes::paste;
 ghost use mathlib.Core.Path.{_≡_};
-ghost use Prim.Native.Nat.{_+_, _≤_};
+ghost use Prim.Native.Nat.{_+_, _-_, _≤_, _<_};
 ghost use lib.ListN.{length, take, drop};
 ghost use Rattle.strlib.specs.Store.{put};
 ghost use Rattle.moving.specs.Moving.{moved};
 
-// The most characters that a step moves; `step` asks for it as 1024. Larger ones gain next to nothing (docs/BENCH.md).
-const STEP_MAX: usize = 1024;
-
-// A step: all characters are read before one is written, so that it is right for every distance.
-fn step(store: &mut [u8], from: usize, to: usize, n: usize)
-    requires { ⌜ (from + n ≤ length (now store)) × (to + n ≤ length (now store)) × (n ≤ 1024) ⌝ }
-    ensures { λ _. ⌜ now (store .exit) ≡ put (now (store .entry)) to (take n (drop from (now (store .entry)))) ⌝ }
+// A step, as wide as the block: all characters are read before one is written, so that it is right for every distance.
+fn step(store: &mut [u8], from: usize, to: usize, block: &mut [u8])
+    requires { ⌜ (from + length (now block) ≤ length (now store)) × (to + length (now block) ≤ length (now store)) ⌝ }
+    ensures { λ _. ⌜ now (store .exit) ≡ put (now (store .entry)) to (take (length (now (block .entry))) (drop from (now (store .entry)))) ⌝ }
 {
-    let mut block = [0u8; STEP_MAX];
-    paste(&mut block, 0, &store[from..from + n]);
-    paste(store, to, &block[..n]);
+    paste(block, 0, &store[from..from + block.len()]);
+    paste(store, to, block);
 }
 
-// From front to back, for a move towards the front. Each step moves all that is left, STEP_MAX at most.
+// From front to back, steps as wide as the block while so many are left: how many characters are moved.
+fn steps_down(store: &mut [u8], from: usize, to: usize, n: usize, block: &mut [u8]) -> usize
+    requires { ⌜ (from + n ≤ length (now store)) × (to ≤ from) × (0 < length (now block)) ⌝ }
+    ensures { λ r. ⌜ now (store .exit) ≡ put (now (store .entry)) to (take r (drop from (now (store .entry)))) ⌝ }
+    ensures { λ r. ⌜ (r ≤ n) × (n < r + length (now (block .entry))) ⌝ }
+{
+    let mut i = 0;
+    while block.len() <= n - i {
+        let k = block.len();
+        step(store, from + i, to + i, block);
+        i += k;
+    }
+    i
+}
+
+// From back to front, steps as wide as the block while so many are left: how many characters are left.
+fn steps_up(store: &mut [u8], from: usize, to: usize, n: usize, block: &mut [u8]) -> usize
+    requires { ⌜ (to + n ≤ length (now store)) × (from ≤ to) × (0 < length (now block)) ⌝ }
+    ensures { λ r. ⌜ now (store .exit) ≡ put (now (store .entry)) (to + r) (take (n - r) (drop (from + r) (now (store .entry)))) ⌝ }
+    ensures { λ r. ⌜ (r ≤ n) × (r < length (now (block .entry))) ⌝ }
+{
+    let mut left = n;
+    while block.len() <= left {
+        left -= block.len();
+        step(store, from + left, to + left, block);
+    }
+    left
+}
+
+// A move towards the front: eight a step while eight are left, the rest singly.
 fn move_down(store: &mut [u8], from: usize, to: usize, n: usize)
     requires { ⌜ (from + n ≤ length (now store)) × (to ≤ from) ⌝ }
     ensures { λ _. ⌜ now (store .exit) ≡ put (now (store .entry)) to (take n (drop from (now (store .entry)))) ⌝ }
 {
-    let mut i = 0;
-    while i < n {
-        let k = super::least(n - i, STEP_MAX);
-        step(store, from + i, to + i, k);
-        i += k;
-    }
+    let mut eight = [0u8; 8];
+    let mut one = [0u8; 1];
+    let i = steps_down(store, from, to, n, &mut eight);
+    steps_down(store, from + i, to + i, n - i, &mut one);
 }
 
-// From back to front, for a move towards the back. Each step moves all that is left, STEP_MAX at most.
+// A move towards the back: eight a step while eight are left, the rest singly.
 fn move_up(store: &mut [u8], from: usize, to: usize, n: usize)
     requires { ⌜ (to + n ≤ length (now store)) × (from ≤ to) ⌝ }
     ensures { λ _. ⌜ now (store .exit) ≡ put (now (store .entry)) to (take n (drop from (now (store .entry)))) ⌝ }
 {
-    let mut left = n;
-    while 0 < left {
-        let k = super::least(left, STEP_MAX);
-        left -= k;
-        step(store, from + left, to + left, k);
-    }
+    let mut eight = [0u8; 8];
+    let mut one = [0u8; 1];
+    let left = steps_up(store, from, to, n, &mut eight);
+    steps_up(store, from, to, left, &mut one);
 }
 
 // Moves n characters within the store, as they were at entry; the two places may overlap.

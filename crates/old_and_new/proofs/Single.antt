@@ -2,6 +2,7 @@
 use mathlib.Core.Path.{_≡_, _∙_}
 use mathlib.Core.List.{List}
 use Prim.Native.Nat.{ℕ, _+_, _-_, _≤_, _<_}
+use native.Mathlib.Nat.{add-zero, sub-zero}
 use native.Mathlib.Omega.{arith}
 use lib.ListN.{length, take, drop, getD, set}
 use lib.Seq.{drop-cons}
@@ -9,7 +10,7 @@ use borrow.Author.Needs.{needs}
 use Rattle.strlib.specs.Store.{put}
 use Rattle.strlib.proofs.Pointing.{within-so}
 use Rattle.strlib.proofs.Storing.{set-put}
-use Rattle.moving.proofs.Moving.{down, down-none, down-more, down-end, up, up-none, up-more, up-end, moved-none-down, moved-none-up, moved-down, moved-up}
+use Rattle.moving.proofs.Moving.{down, down-none, down-more, up, up-none, up-more, moved-none-down, moved-none-up, moved-down, moved-up}
 
 one : (t : List ℕ) (from to : ℕ) → from < length t → to < length t → set t to (getD t from 0) ≡ put t to (take 1 (drop from t))
 one t from to h k = rw (drop-cons t from 0 h) (set-put t to (getD t from 0) k)
@@ -21,4 +22,13 @@ module _ (s t : List ℕ) (from to n i : ℕ) (l : length t ≡ length s) where
   pub up-one : t ≡ up s from to n i → to + n ≤ length s → from ≤ to → 0 < i → i ≤ n → set t (to + (i - 1)) (getD t (from + (i - 1)) 0) ≡ up s from to n (i - 1)
   up-one e ht hf h k = one t (from + (i - 1)) (to + (i - 1)) (omega arith) (omega arith) ∙ up-more s t from to n i e ht hf 1 (omega arith) k
 
-pub ruleset single-laws = (needs, down-none, down-one, down-end, up-none, up-one, up-end, within-so, moved-none-down, moved-none-up, moved-down, moved-up)
+module _ (s t : List ℕ) (from to n i : ℕ) where
+  pub down-all : t ≡ down s from to i → n ≤ i → i ≤ n → t ≡ put s to (take n (drop from s))
+  unfolding down
+  down-all e h k = let j : i ≡ n = omega arith in e ∙ rw j
+
+  pub up-all : t ≡ up s from to n i → i ≤ 0 → t ≡ put s to (take n (drop from s))
+  unfolding up
+  up-all e h = let z : i ≡ 0 = omega arith in e ∙ rw (z, add-zero to, add-zero from, sub-zero)
+
+pub ruleset single-laws = (needs, down-none, down-one, down-all, up-none, up-one, up-all, within-so, moved-none-down, moved-none-up, moved-down, moved-up)

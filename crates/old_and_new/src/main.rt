@@ -4,7 +4,7 @@
 //
 // Of each length the moves go by 0 to 9, 63 to 65 and 1,023 to 1,025 places, by so many less than the length (then the
 // two places share as many bytes), and from one end of the store to the other: towards the front and towards the back,
-// at the store's front and at its end. The lengths lie about 64, 128 and the most that one and two steps move.
+// at the store's front and at its end.
 mod old;
 
 use saying::say;

@@ -31,9 +31,6 @@ module _ (s b t : List ℕ) (from to : ℕ) (e : t ≡ put b 0 (take (from + len
       let p : take (length xs) (drop 0 (put b 0 xs)) ≡ xs = part-put b 0 xs (omega arith) in
       rw (e, j) (sym (take-all (length xs) (put b 0 xs) (omega arith)) ∙ p)
 
-  pub step-room : to + length b ≤ length s → to + length t ≤ length s
-  step-room h = let l : length t ≡ length b = rw step-read (part-length s from (length b) hf) in omega arith
-
   pub step-end : (u : List ℕ) → u ≡ put s to t → u ≡ put s to (take (length b) (drop from s))
   step-end u h = h ∙ rw step-read
 
@@ -145,7 +142,7 @@ module _ (s : List ℕ) (from to n : ℕ) where
           let k : to + n ≤ length s = within-so (length s) to n b e f in
           p ∙ sym (moved-in (omega arith) k)
 
-pub ruleset step-laws = (needs, step-room, step-end)
+pub ruleset step-laws = (needs, step-end)
 
 pub ruleset down-laws = (needs, down-none, down-step, down-is)
 

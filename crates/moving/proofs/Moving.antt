@@ -21,18 +21,18 @@ part-length : (s : List ℕ) (at n : ℕ) → at + n ≤ length s → length (ta
 part-length s at n h = rw (length-take, length-drop) (omega arith)
 
 -- a part of the store s, from `from` on, is put over the whole block b; t, the block then, is what was read
-module _ (s b t : List ℕ) (from to : ℕ) (e : t ≡ put b 0 (take (from + length b - from) (drop from s))) (hf : from + length b ≤ length s) where
-  step-read : t ≡ take (length b) (drop from s)
-  step-read =
-      let xs : List ℕ = take (length b) (drop from s) in
-      let j : from + length b - from ≡ length b = omega arith in
-      let l : length xs ≡ length b = part-length s from (length b) hf in
-      let m : length (put b 0 xs) ≡ length b = put-length b 0 xs (omega arith) in
-      let p : take (length xs) (drop 0 (put b 0 xs)) ≡ xs = part-put b 0 xs (omega arith) in
-      rw (e, j) (sym (take-all (length xs) (put b 0 xs) (omega arith)) ∙ p)
+step-read : (s b t : List ℕ) (from : ℕ) → t ≡ put b 0 (take (from + length b - from) (drop from s)) → from + length b ≤ length s → t ≡ take (length b) (drop from s)
+step-read s b t from e hf =
+    let xs : List ℕ = take (length b) (drop from s) in
+    let j : from + length b - from ≡ length b = omega arith in
+    let l : length xs ≡ length b = part-length s from (length b) hf in
+    let m : length (put b 0 xs) ≡ length b = put-length b 0 xs (omega arith) in
+    let p : take (length xs) (drop 0 (put b 0 xs)) ≡ xs = part-put b 0 xs (omega arith) in
+    rw (e, j) (sym (take-all (length xs) (put b 0 xs) (omega arith)) ∙ p)
 
-  pub step-end : (u : List ℕ) → u ≡ put s to t → u ≡ put s to (take (length b) (drop from s))
-  step-end u h = h ∙ rw step-read
+pub step-end : (s b t u : List ℕ) (from to : ℕ) → t ≡ put b 0 (take (from + length b - from) (drop from s)) → from + length b ≤ length s → u ≡ put s to t
+    → u ≡ put s to (take (length b) (drop from s))
+step-end s b t u from to e hf h = h ∙ rw (step-read s b t from e hf)
 
 -- ---- the two loops, whatever the width k of a step
 
@@ -49,31 +49,24 @@ unfolding down
 down-none s from to = sym (put-none s to)
 
 module _ (s t : List ℕ) (from to n i : ℕ) (e : t ≡ down s from to i) (hf : from + n ≤ length s) (ht : to ≤ from) where
-  pub down-more : (k : ℕ) → i + k ≤ n → put t (to + i) (take k (drop (from + i) t)) ≡ down s from to (i + k)
+  pub down-step : (u : List ℕ) (k : ℕ) → u ≡ put t (to + i) (take k (drop (from + i) t)) → i ≤ n → u ≡ down s from to (i + k)
   unfolding down
-  down-more k h =
+  down-step u k q h =
       let xs : List ℕ = take i (drop from s) in
       let zs : List ℕ = take k (drop (from + i) s) in
       let l : length xs ≡ i = part-length s from i (omega arith) in
       let r : take k (drop (from + i) t) ≡ zs = rw e (part-after s to xs (omega arith) (from + i) k (omega arith)) in
       let m : put (put s to xs) (to + length xs) zs ≡ put s to (xs ++ zs) = put-put s to xs (omega arith) zs in
-      rw (r, e, take-add i k (drop from s), drop-drop i from s) (rw l at m)
-
-  pub down-step : (u : List ℕ) (k : ℕ) → u ≡ put t (to + i) (take k (drop (from + i) t)) → k ≤ n - i → i ≤ n → u ≡ down s from to (i + k)
-  down-step u k q l h = q ∙ down-more k (omega arith)
-
-  pub down-is : t ≡ put s to (take i (drop from s))
-  unfolding down
-  down-is = e
+      q ∙ rw (r, e, take-add i k (drop from s), drop-drop i from s) (rw l at m)
 
 pub up-none : (s : List ℕ) (from to n : ℕ) → s ≡ up s from to n n
 unfolding up
 up-none s from to n = rw sub-self (sym (put-none s (to + n)))
 
 module _ (s t : List ℕ) (from to n i : ℕ) (e : t ≡ up s from to n i) (ht : to + n ≤ length s) (hf : from ≤ to) where
-  pub up-more : (k : ℕ) → k ≤ i → i ≤ n → put t (to + (i - k)) (take k (drop (from + (i - k)) t)) ≡ up s from to n (i - k)
+  pub up-step : (u : List ℕ) (k : ℕ) → u ≡ put t (to + (i - k)) (take k (drop (from + (i - k)) t)) → k ≤ i → i ≤ n → u ≡ up s from to n (i - k)
   unfolding up
-  up-more k h g =
+  up-step u k q h g =
       let j : ℕ = i - k in
       let xs : List ℕ = take k (drop (from + j) s) in
       let ys : List ℕ = take (n - i) (drop (from + i) s) in
@@ -84,35 +77,38 @@ module _ (s t : List ℕ) (from to n i : ℕ) (e : t ≡ up s from to n i) (ht :
       let f : from + j + k ≡ from + i = omega arith in
       let r : take k (drop (from + j) t) ≡ xs = rw e (part-before s (to + i) ys (omega arith) (from + j) k (omega arith)) in
       let m : put (put s (to + j + length xs) ys) (to + j) xs ≡ put s (to + j) (xs ++ ys) = put-before s (to + j) xs ys (omega arith) in
-      rw (r, e, b, take-add k (n - i) (drop (from + j) s), drop-drop k (from + j) s, f) (rw (l, a) at m)
+      q ∙ rw (r, e, b, take-add k (n - i) (drop (from + j) s), drop-drop k (from + j) s, f) (rw (l, a) at m)
 
-  pub up-step : (u : List ℕ) (k : ℕ) → u ≡ put t (to + (i - k)) (take k (drop (from + (i - k)) t)) → k ≤ i → i ≤ n → u ≡ up s from to n (i - k)
-  up-step u k q l h = q ∙ up-more k l h
+-- a loop's end, in the words of its promise
+pub down-is : (s t : List ℕ) (from to i : ℕ) → t ≡ down s from to i → t ≡ put s to (take i (drop from s))
+unfolding down
+down-is s t from to i e = e
 
-  pub up-is : t ≡ put s (to + i) (take (n - i) (drop (from + i) s))
-  unfolding up
-  up-is = e
+pub up-is : (s t : List ℕ) (from to n i : ℕ) → t ≡ up s from to n i → t ≡ put s (to + i) (take (n - i) (drop (from + i) s))
+unfolding up
+up-is s t from to n i e = e
 
 -- ---- the two moves: steps of eight, then of one
 
 module _ (s t u : List ℕ) (from to n : ℕ) where
-  -- i are moved, then m of those left, which are all
+  -- i are moved, then m more, which are all that is left
   pub down-end : (i m : ℕ) → t ≡ put s to (take i (drop from s)) → u ≡ put t (to + i) (take m (drop (from + i) t)) → from + n ≤ length s → to ≤ from → i ≤ n → m ≤ n - i → n - i < m + 1
       → u ≡ put s to (take n (drop from s))
   unfolding down
-  down-end i m e q hf ht h k l =
+  down-end i m e q hf ht h g l =
       let j : i + m ≡ n = omega arith in
-      q ∙ down-more s t from to n i e hf ht m (omega arith) ∙ rw j
+      down-step s t from to n i e hf ht u m q h ∙ rw j
 
-  -- all but i are moved, then those but m, which is none
-  pub up-end : (i m : ℕ) → t ≡ put s (to + i) (take (n - i) (drop (from + i) s)) → u ≡ put t (to + m) (take (i - m) (drop (from + m) t)) → to + n ≤ length s → from ≤ to → i ≤ n → m ≤ i → m < 1
+  -- all but the first i are moved, then all of these but the first m, and m is 0
+  pub up-end : (i m : ℕ) → t ≡ put s (to + i) (take (n - i) (drop (from + i) s)) → u ≡ put t (to + m) (take (i - m) (drop (from + m) t)) → to + n ≤ length s → from ≤ to → i ≤ n → m < 1
       → u ≡ put s to (take n (drop from s))
   unfolding up
-  up-end i m e q ht hf h k l =
+  up-end i m e q ht hf h l =
       let z : m ≡ 0 = omega arith in
       let y : i - i ≡ 0 = sub-self i in
-      let w : put t (to + (i - i)) (take i (drop (from + (i - i)) t)) ≡ put s (to + (i - i)) (take (n - (i - i)) (drop (from + (i - i)) s)) = up-more s t from to n i e ht hf i (omega arith) h in
-      q ∙ rw (z, sub-zero, add-zero to, add-zero from) (rw (y, add-zero to, add-zero from, sub-zero) at w)
+      let p : u ≡ put t (to + (i - i)) (take i (drop (from + (i - i)) t)) = q ∙ rw (z, y, sub-zero) in
+      let w : u ≡ put s (to + (i - i)) (take (n - (i - i)) (drop (from + (i - i)) s)) = up-step s t from to n i e ht hf u i p (omega arith) h in
+      rw (y, add-zero to, add-zero from, sub-zero) at w
 
 -- ---- the leaf
 
@@ -142,10 +138,8 @@ module _ (s : List ℕ) (from to n : ℕ) where
           let k : to + n ≤ length s = within-so (length s) to n b e f in
           p ∙ sym (moved-in (omega arith) k)
 
-pub ruleset step-laws = (needs, step-end)
-
 pub ruleset down-laws = (needs, down-none, down-step, down-is)
 
 pub ruleset up-laws = (needs, up-none, up-step, up-is)
 
-pub ruleset move-laws = (needs, down-end, up-end, within-so, moved-none-down, moved-none-up, moved-down, moved-up)
+pub ruleset move-laws = (needs, within-so, moved-none-down, moved-none-up, moved-down, moved-up)

@@ -6,7 +6,8 @@ ghost use lib.ListN.{length, take, drop};
 ghost use Rattle.strlib.specs.Store.{put};
 ghost use Rattle.moving.specs.Moving.{moved};
 
-// A step, as wide as the block: all characters are read before one is written, so that it is right for every distance.
+// A step, as wide as the block, whatever that holds: all characters are read before one is written, so that it is right
+// for every distance. Compiled, a step of eight is one move of eight bytes.
 fn step(store: &mut [u8], from: usize, to: usize, block: &mut [u8])
     requires { ⌜ (from + length (now block) ≤ length (now store)) × (to + length (now block) ≤ length (now store)) ⌝ }
     ensures { λ _. ⌜ now (store .exit) ≡ put (now (store .entry)) to (take (length (now (block .entry))) (drop from (now (store .entry)))) ⌝ }

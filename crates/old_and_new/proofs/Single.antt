@@ -10,17 +10,19 @@ use borrow.Author.Needs.{needs}
 use Rattle.strlib.specs.Store.{put}
 use Rattle.strlib.proofs.Pointing.{within-so}
 use Rattle.strlib.proofs.Storing.{set-put}
-use Rattle.moving.proofs.Moving.{down, down-none, down-more, up, up-none, up-more, moved-none-down, moved-none-up, moved-down, moved-up}
+use Rattle.moving.proofs.Moving.{down, down-none, down-step, up, up-none, up-step, moved-none-down, moved-none-up, moved-down, moved-up}
 
 one : (t : List ℕ) (from to : ℕ) → from < length t → to < length t → set t to (getD t from 0) ≡ put t to (take 1 (drop from t))
 one t from to h k = rw (drop-cons t from 0 h) (set-put t to (getD t from 0) k)
 
 module _ (s t : List ℕ) (from to n i : ℕ) (l : length t ≡ length s) where
   pub down-one : t ≡ down s from to i → from + n ≤ length s → to ≤ from → i < n → set t (to + i) (getD t (from + i) 0) ≡ down s from to (i + 1)
-  down-one e hf ht h = one t (from + i) (to + i) (omega arith) (omega arith) ∙ down-more s t from to n i e hf ht 1 (omega arith)
+  down-one e hf ht h =
+      down-step s t from to n i e hf ht (set t (to + i) (getD t (from + i) 0)) 1 (one t (from + i) (to + i) (omega arith) (omega arith)) (omega arith)
 
   pub up-one : t ≡ up s from to n i → to + n ≤ length s → from ≤ to → 0 < i → i ≤ n → set t (to + (i - 1)) (getD t (from + (i - 1)) 0) ≡ up s from to n (i - 1)
-  up-one e ht hf h k = one t (from + (i - 1)) (to + (i - 1)) (omega arith) (omega arith) ∙ up-more s t from to n i e ht hf 1 (omega arith) k
+  up-one e ht hf h k =
+      up-step s t from to n i e ht hf (set t (to + (i - 1)) (getD t (from + (i - 1)) 0)) 1 (one t (from + (i - 1)) (to + (i - 1)) (omega arith) (omega arith)) (omega arith) k
 
 module _ (s t : List ℕ) (from to n i : ℕ) where
   pub down-all : t ≡ down s from to i → n ≤ i → i ≤ n → t ≡ put s to (take n (drop from s))

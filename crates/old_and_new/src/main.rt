@@ -2,9 +2,10 @@
 // length says whether the two stores are then alike to the last byte, and has a sum over the store, so that what is
 // printed also depends on what was moved.
 //
-// Of each length the moves go by 0 to 9, 63 to 65 and 1,023 to 1,025 places, by so many less than the length (then the
-// two places share as many bytes), and from one end of the store to the other: towards the front and towards the back,
-// at the store's front and at its end.
+// Of each length the moves go by 0 to 9, 63 to 65 and 1,023 to 1,025 places; so far that the two places share as many
+// bytes, where the length and the store allow it; and from one end of the store to the other. Each goes towards the
+// front and towards the back, at the store's front and at its end. Behind the lengths about eight, 64 and 128 stand some
+// long ones.
 mod old;
 
 use saying::say;
@@ -51,14 +52,14 @@ const LENGTHS: [usize; 33] = [
 
 const DISTANCES: [usize; 16] = [0, 1, 2, 3, 4, 5, 6, 7, 8, 9, 63, 64, 65, 1023, 1024, 1025];
 
-// Of all moves so far: whether both left the same bytes, whether none wrote anything, and a sum.
+// Of all moves so far: whether old and new left the same bytes, whether new changed none, and a sum.
 struct Seen {
     alike: bool,
     still: bool,
     sum: usize,
 }
 
-// Neighbours differ, and so do bytes that lie up to 250 places from each other.
+// Bytes differ unless a multiple of 251 places lies between them.
 fn paint(store: &mut [u8]) {
     let mut i = 0;
     while i < store.len() {
@@ -108,7 +109,7 @@ fn at_distance(seen: Seen, n: usize, d: usize) -> Seen {
     seen
 }
 
-// By k places, and by as many that k bytes are shared.
+// By k places, and by n - k places, so that k bytes are shared.
 fn at_both(seen: Seen, n: usize, k: usize) -> Seen {
     let seen = at_distance(seen, n, k);
     if k <= n {
@@ -171,6 +172,8 @@ fn outside() {
     let seen = trial(seen, 0, most, 1);
     let seen = trial(seen, 2, 1, most);
     let seen = trial(seen, 1, 2, most);
+    let seen = trial(seen, most - 7, 0, 8);
+    let seen = trial(seen, 0, most - 7, 8);
     let seen = trial(seen, most, most, most);
     say(b"outside");
     say_seen(seen);

@@ -1,4 +1,5 @@
-use Rattle.moving.proofs.Moving.{move-laws}
+use borrow.Author.Needs.{needs}
+use Rattle.moving.proofs.Moving.{down-end}
 use Rattle.moving.proofs.moves.move_down.Statement.{statement}
 use Rattle.moving.proofs.moves.move_down.Tie as tie
 
@@ -6,12 +7,12 @@ pub move-down-spec : {M : Type 1} → statement M
 move-down-spec =
     tie.close
     (tie.spec
-    (λ c. search move-laws)
-    (λ c κs. search move-laws)
-    (λ c. search move-laws)
-    (λ c. search move-laws)
-    (λ c. search move-laws)
-    (λ c. search move-laws)
-    (λ c κs. search move-laws)
-    (λ c. search move-laws)
-    (λ c. search move-laws))
+    (λ c. search needs)
+    (λ c κs. search needs)
+    (λ c. search needs)
+    (λ c. search needs)
+    (λ c. search needs)
+    (λ c. search needs)
+    (λ c κs. search needs)
+    (λ c. search needs)
+    (λ c. search (needs, down-end)))

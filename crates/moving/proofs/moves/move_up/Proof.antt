@@ -1,4 +1,5 @@
-use Rattle.moving.proofs.Moving.{move-laws}
+use borrow.Author.Needs.{needs}
+use Rattle.moving.proofs.Moving.{up-end}
 use Rattle.moving.proofs.moves.move_up.Statement.{statement}
 use Rattle.moving.proofs.moves.move_up.Tie as tie
 
@@ -6,9 +7,9 @@ pub move-up-spec : {M : Type 1} → statement M
 move-up-spec =
     tie.close
     (tie.spec
-    (λ c. search move-laws)
-    (λ c κs. search move-laws)
-    (λ c. search move-laws)
-    (λ c κs. search move-laws)
-    (λ c. search move-laws)
-    (λ c. search move-laws))
+    (λ c. search needs)
+    (λ c κs. search needs)
+    (λ c. search needs)
+    (λ c κs. search needs)
+    (λ c. search needs)
+    (λ c. search (needs, up-end)))

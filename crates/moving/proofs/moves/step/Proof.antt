@@ -1,4 +1,5 @@
-use Rattle.moving.proofs.Moving.{step-laws}
+use borrow.Author.Needs.{needs}
+use Rattle.moving.proofs.Moving.{step-end}
 use Rattle.moving.proofs.moves.step.Statement.{statement}
 use Rattle.moving.proofs.moves.step.Tie as tie
 
@@ -6,12 +7,12 @@ pub step-spec : {M : Type 1} → statement M
 step-spec =
     tie.close
     (tie.spec
-    (λ c. search step-laws)
-    (λ c. search step-laws)
-    (λ c. search step-laws)
-    (λ c. search step-laws)
-    (λ c κs. search step-laws)
-    (λ c κs. search step-laws)
-    (λ c. search step-laws)
-    (λ c. search step-laws)
-    (λ c. search step-laws))
+    (λ c. search needs)
+    (λ c. search needs)
+    (λ c. search needs)
+    (λ c. search needs)
+    (λ c κs. search needs)
+    (λ c κs. search needs)
+    (λ c. search needs)
+    (λ c. search needs)
+    (λ c. search (needs, step-end)))

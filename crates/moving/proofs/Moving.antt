@@ -3,8 +3,8 @@
 use mathlib.Core.Path.{_≡_, sym, _∙_}
 use mathlib.Core.Bool.{Bool, true, false, and-false}
 use mathlib.Core.List.{List, _++_}
-use Prim.Native.Nat.{ℕ, _+_, _-_, _≤_, _<_}
-use native.Mathlib.Nat.{sub-self, add-zero, sub-zero}
+use Prim.Native.Nat.{ℕ, _+_, _-_, _%_, _≤_, _<_}
+use native.Mathlib.Nat.{sub-self, add-zero, sub-zero, mod-eq-of-lt, mod-eq-sub-mod}
 use native.Mathlib.Omega.{arith}
 use lib.ListN.{length, take, drop, length-take, length-drop}
 use lib.Seq.{take-add, take-all, drop-drop}
@@ -79,36 +79,64 @@ module _ (s t : List ℕ) (from to n i : ℕ) (e : t ≡ up s from to n i) (ht :
       let m : put (put s (to + j + length xs) ys) (to + j) xs ≡ put s (to + j) (xs ++ ys) = put-before s (to + j) xs ys (omega arith) in
       q ∙ rw (r, e, b, take-add k (n - i) (drop (from + j) s), drop-drop k (from + j) s, f) (rw (l, a) at m)
 
+-- what is left of n bytes by steps of k: its remainder stays
+pub left-all : (n k : ℕ) → (n - 0) % k ≡ n % k
+left-all n k = rw sub-zero
+
+pub left-down : (n i k w : ℕ) → (n - i) % w ≡ n % w → k ≡ w → k ≤ n - i → (n - (i + k)) % w ≡ n % w
+left-down n i k w e f h =
+    let g : w ≤ n - i = omega arith in
+    let j : n - (i + k) ≡ n - i - w = omega arith in
+    rw j (sym (mod-eq-sub-mod g) ∙ e)
+
+pub left-up : (n i k w : ℕ) → i % w ≡ n % w → k ≡ w → k ≤ i → (i - k) % w ≡ n % w
+left-up n i k w e f h = let g : w ≤ i = omega arith in rw f (sym (mod-eq-sub-mod g) ∙ e)
+
 -- a loop's end, in the words of its promise
-pub down-is : (s t : List ℕ) (from to i : ℕ) → t ≡ down s from to i → t ≡ put s to (take i (drop from s))
+pub down-is : (s t : List ℕ) (from to n i k w : ℕ) → t ≡ down s from to i → i ≤ n → (n - i) % w ≡ n % w → k ≡ w → n - i < k → t ≡ put s to (take (n - n % w) (drop from s))
 unfolding down
-down-is s t from to i e = e
+down-is s t from to n i k w e h m f l =
+    let g : n - i < w = omega arith in
+    let r : n % w ≡ n - i = sym m ∙ mod-eq-of-lt g in
+    let j : n - n % w ≡ i = rw r (omega arith) in
+    e ∙ rw j
 
-pub up-is : (s t : List ℕ) (from to n i : ℕ) → t ≡ up s from to n i → t ≡ put s (to + i) (take (n - i) (drop (from + i) s))
+pub up-is : (s t : List ℕ) (from to n i k w : ℕ) → t ≡ up s from to n i → i % w ≡ n % w → k ≡ w → i < k → t ≡ put s (to + n % w) (take (n - n % w) (drop (from + n % w) s))
 unfolding up
-up-is s t from to n i e = e
+up-is s t from to n i k w e m f l =
+    let g : i < w = omega arith in
+    let r : n % w ≡ i = sym m ∙ mod-eq-of-lt g in
+    e ∙ rw r
 
--- ---- the two moves: steps of eight, then of one
+-- ---- the two moves: steps of 64, of eight, of one
 
-module _ (s t u : List ℕ) (from to n : ℕ) where
-  -- i are moved, then m more, which are all that is left
-  pub down-end : (i m : ℕ) → t ≡ put s to (take i (drop from s)) → u ≡ put t (to + i) (take m (drop (from + i) t)) → from + n ≤ length s → to ≤ from → i ≤ n → m ≤ n - i → n - i < m + 1
-      → u ≡ put s to (take n (drop from s))
-  unfolding down
-  down-end i m e q hf ht h g l =
-      let j : i + m ≡ n = omega arith in
-      down-step s t from to n i e hf ht u m q h ∙ rw j
+-- all but the last n % 8 are moved, then these
+pub down-end : (s t u : List ℕ) (from to n : ℕ) → t ≡ put s to (take (n - n % 8) (drop from s)) → u ≡ put t (to + (n - n % 8)) (take (n % 8 - n % 8 % 1) (drop (from + (n - n % 8)) t))
+    → from + n ≤ length s → to ≤ from → u ≡ put s to (take n (drop from s))
+unfolding down
+down-end s t u from to n e q hf ht =
+    let z : n % 8 - n % 8 % 1 ≡ n % 8 = omega arith in
+    let j : n - n % 8 + n % 8 ≡ n = omega arith in
+    down-step s t from to n (n - n % 8) e hf ht u (n % 8) (rw z at q) (omega arith) ∙ rw j
 
-  -- all but the first i are moved, then all of these but the first m, and m is 0
-  pub up-end : (i m : ℕ) → t ≡ put s (to + i) (take (n - i) (drop (from + i) s)) → u ≡ put t (to + m) (take (i - m) (drop (from + m) t)) → to + n ≤ length s → from ≤ to → i ≤ n → m < 1
-      → u ≡ put s to (take n (drop from s))
-  unfolding up
-  up-end i m e q ht hf h l =
-      let z : m ≡ 0 = omega arith in
-      let y : i - i ≡ 0 = sub-self i in
-      let p : u ≡ put t (to + (i - i)) (take i (drop (from + (i - i)) t)) = q ∙ rw (z, y, sub-zero) in
-      let w : u ≡ put s (to + (i - i)) (take (n - (i - i)) (drop (from + (i - i)) s)) = up-step s t from to n i e ht hf u i p (omega arith) h in
-      rw (y, add-zero to, add-zero from, sub-zero) at w
+-- all but the first i are moved, then all of these but the first j
+module _ (s t : List ℕ) (from to n i : ℕ) (e : t ≡ up s from to n i) (ht : to + n ≤ length s) (hf : from ≤ to) where
+  up-more : (u : List ℕ) (j : ℕ) → u ≡ put t (to + j) (take (i - j) (drop (from + j) t)) → j ≤ i → i ≤ n → u ≡ up s from to n j
+  up-more u j q h g =
+      let y : i - (i - j) ≡ j = omega arith in
+      let p : u ≡ put t (to + (i - (i - j))) (take (i - j) (drop (from + (i - (i - j))) t)) = q ∙ rw y in
+      rw y at (up-step s t from to n i e ht hf u (i - j) p (omega arith) g)
+
+-- all but the first n % 64 are moved, then all of these but the first of them % 8, then these
+pub up-end : (s t u v : List ℕ) (from to n : ℕ) → t ≡ put s (to + n % 64) (take (n - n % 64) (drop (from + n % 64) s))
+    → u ≡ put t (to + n % 64 % 8) (take (n % 64 - n % 64 % 8) (drop (from + n % 64 % 8) t))
+    → v ≡ put u (to + n % 64 % 8 % 1) (take (n % 64 % 8 - n % 64 % 8 % 1) (drop (from + n % 64 % 8 % 1) u)) → to + n ≤ length s → from ≤ to → v ≡ put s to (take n (drop from s))
+unfolding up
+up-end s t u v from to n e q r ht hf =
+    let z : n % 64 % 8 % 1 ≡ 0 = omega arith in
+    let a : u ≡ up s from to n (n % 64 % 8) = up-more s t from to n (n % 64) e ht hf u (n % 64 % 8) q (omega arith) (omega arith) in
+    let b : v ≡ up s from to n 0 = up-more s u from to n (n % 64 % 8) a ht hf v 0 (rw z at r) (omega arith) (omega arith) in
+    rw (add-zero to, add-zero from, sub-zero) at b
 
 -- ---- the leaf
 
@@ -138,8 +166,8 @@ module _ (s : List ℕ) (from to n : ℕ) where
           let k : to + n ≤ length s = within-so (length s) to n b e f in
           p ∙ sym (moved-in (omega arith) k)
 
-pub ruleset down-laws = (needs, down-none, down-step, down-is)
+pub ruleset down-laws = (needs, down-none, down-step, left-all, left-down, down-is)
 
-pub ruleset up-laws = (needs, up-none, up-step, up-is)
+pub ruleset up-laws = (needs, up-none, up-step, left-up, up-is)
 
 pub ruleset move-laws = (needs, within-so, moved-none-down, moved-none-up, moved-down, moved-up)

@@ -1,7 +1,7 @@
 // The one leaf through which characters are moved.
 use super::bytes::paste;
 ghost use mathlib.Core.Path.{_≡_};
-ghost use Prim.Native.Nat.{_+_, _-_, _≤_, _<_};
+ghost use Prim.Native.Nat.{_+_, _-_, _%_, _≤_, _<_};
 ghost use lib.ListN.{length, take, drop};
 ghost use Rattle.strlib.specs.Store.{put};
 ghost use Rattle.moving.specs.Moving.{moved};
@@ -16,11 +16,10 @@ fn step(store: &mut [u8], from: usize, to: usize, block: &mut [u8])
     paste(store, to, block);
 }
 
-// From front to back, steps as wide as the block while so many are left: how many characters are moved.
-fn steps_down(store: &mut [u8], from: usize, to: usize, n: usize, block: &mut [u8]) -> usize
+// From front to back, steps as wide as the block while so many are left: all characters but the last n % width.
+fn steps_down(store: &mut [u8], from: usize, to: usize, n: usize, block: &mut [u8])
     requires { ⌜ (from + n ≤ length (now store)) × (to ≤ from) × (0 < length (now block)) ⌝ }
-    ensures { λ r. ⌜ now (store .exit) ≡ put (now (store .entry)) to (take r (drop from (now (store .entry)))) ⌝ }
-    ensures { λ r. ⌜ (r ≤ n) × (n < r + length (now (block .entry))) ⌝ }
+    ensures { λ _. ⌜ now (store .exit) ≡ put (now (store .entry)) to (take (n - n % length (now (block .entry))) (drop from (now (store .entry)))) ⌝ }
 {
     let mut i = 0;
     while block.len() <= n - i {
@@ -28,43 +27,47 @@ fn steps_down(store: &mut [u8], from: usize, to: usize, n: usize, block: &mut [u
         step(store, from + i, to + i, block);
         i += k;
     }
-    i
 }
 
-// From back to front, steps as wide as the block while so many are left: how many characters are left.
-fn steps_up(store: &mut [u8], from: usize, to: usize, n: usize, block: &mut [u8]) -> usize
+// From back to front, steps as wide as the block while so many are left: all characters but the first n % width.
+fn steps_up(store: &mut [u8], from: usize, to: usize, n: usize, block: &mut [u8])
     requires { ⌜ (to + n ≤ length (now store)) × (from ≤ to) × (0 < length (now block)) ⌝ }
-    ensures { λ r. ⌜ now (store .exit) ≡ put (now (store .entry)) (to + r) (take (n - r) (drop (from + r) (now (store .entry)))) ⌝ }
-    ensures { λ r. ⌜ (r ≤ n) × (r < length (now (block .entry))) ⌝ }
+    ensures { λ _. ⌜ now (store .exit) ≡ put (now (store .entry)) (to + n % length (now (block .entry))) (take (n - n % length (now (block .entry))) (drop (from + n % length (now (block .entry))) (now (store .entry)))) ⌝ }
 {
     let mut left = n;
     while block.len() <= left {
         left -= block.len();
         step(store, from + left, to + left, block);
     }
-    left
 }
 
-// A move towards the front: eight a step while eight are left, the rest singly.
+// A move towards the front: eight a step while eight are left, the rest singly. These steps are compiled to 32 bytes a
+// turn, written in the store's order. A step of 64 would be compiled to one written from its back to its front, which
+// takes nearly twice as long where the target is not in the nearest cache.
 fn move_down(store: &mut [u8], from: usize, to: usize, n: usize)
     requires { ⌜ (from + n ≤ length (now store)) × (to ≤ from) ⌝ }
     ensures { λ _. ⌜ now (store .exit) ≡ put (now (store .entry)) to (take n (drop from (now (store .entry)))) ⌝ }
 {
     let mut eight = [0u8; 8];
     let mut one = [0u8; 1];
-    let i = steps_down(store, from, to, n, &mut eight);
-    steps_down(store, from + i, to + i, n - i, &mut one);
+    let rest = n % 8;
+    steps_down(store, from, to, n, &mut eight);
+    steps_down(store, from + (n - rest), to + (n - rest), rest, &mut one);
 }
 
-// A move towards the back: eight a step while eight are left, the rest singly.
+// A move towards the back: 64 a step while 64 are left, then eight while eight are left, the rest singly.
 fn move_up(store: &mut [u8], from: usize, to: usize, n: usize)
     requires { ⌜ (to + n ≤ length (now store)) × (from ≤ to) ⌝ }
     ensures { λ _. ⌜ now (store .exit) ≡ put (now (store .entry)) to (take n (drop from (now (store .entry)))) ⌝ }
 {
+    let mut many = [0u8; 64];
     let mut eight = [0u8; 8];
     let mut one = [0u8; 1];
-    let left = steps_up(store, from, to, n, &mut eight);
-    steps_up(store, from, to, left, &mut one);
+    let left = n % 64;
+    let rest = left % 8;
+    steps_up(store, from, to, n, &mut many);
+    steps_up(store, from, to, left, &mut eight);
+    steps_up(store, from, to, rest, &mut one);
 }
 
 // Moves n characters within the store, as they were at entry; the two places may overlap.

@@ -1,5 +1,5 @@
 use mathlib.Core.Path.{_≡_}
-use Prim.Native.Nat.{_≤_, _-_}
+use Prim.Native.Nat.{_%_, _≤_, _-_}
 use lib.ListN.{length}
 use Rattle.moving.proofs.Moving.{down, down-laws}
 use Rattle.moving.proofs.moves.steps_down.Statement.{statement}
@@ -7,7 +7,7 @@ use Rattle.moving.proofs.moves.steps_down.Tie as tie
 
 abbrev Inv-loop : tie.InvT-loop
 Inv-loop store₀ from to n block₀ i₀ store block i =
-    (i ≤ n) × (length store ≡ length store₀) × (length block ≡ length block₀) × (store ≡ down store₀ from to i)
+    (i ≤ n) × (length store ≡ length store₀) × (length block ≡ length block₀) × ((n - i) % length block₀ ≡ n % length block₀) × (store ≡ down store₀ from to i)
 
 abbrev μ-loop : tie.MeasureT-loop
 μ-loop store₀ from to n block₀ i₀ store block i = n - i

@@ -1,5 +1,5 @@
 use mathlib.Core.Path.{_≡_}
-use Prim.Native.Nat.{_≤_}
+use Prim.Native.Nat.{_%_, _≤_}
 use lib.ListN.{length}
 use Rattle.moving.proofs.Moving.{up, up-laws}
 use Rattle.moving.proofs.moves.steps_up.Statement.{statement}
@@ -7,7 +7,7 @@ use Rattle.moving.proofs.moves.steps_up.Tie as tie
 
 abbrev Inv-loop : tie.InvT-loop
 Inv-loop store₀ from to n block₀ left₀ store block left =
-    (left ≤ n) × (length store ≡ length store₀) × (length block ≡ length block₀) × (store ≡ up store₀ from to n left)
+    (left ≤ n) × (length store ≡ length store₀) × (length block ≡ length block₀) × (left % length block₀ ≡ n % length block₀) × (store ≡ up store₀ from to n left)
 
 abbrev μ-loop : tie.MeasureT-loop
 μ-loop store₀ from to n block₀ left₀ store block left = left

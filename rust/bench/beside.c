@@ -11,24 +11,27 @@
 static strlib_ptr full(size_t start, size_t length) { return (strlib_ptr){start, length, length}; }
 
 /* The list of a length is made once; that it is passed by value is part of the call. */
-static strlib_list all(size_t n)
+static strlib_list all(size_t start, size_t n)
 {
-    static strlib_list lists[1876];
-    if (lists[n].count == 0) {
-        lists[n].count = STRLIB_LIST_MAX;
+    static strlib_list lists[2][1876];
+    strlib_list *list = &lists[start != 0][n];
+    if (list->count == 0) {
+        list->count = STRLIB_LIST_MAX;
         for (size_t i = 0; i < STRLIB_LIST_MAX; i++)
-            lists[n].items[i] = full(60000, n);
+            list->items[i] = full(start, n);
     }
-    return lists[n];
+    return *list;
 }
 
-/* job 0: 32 strings of n joined; 1: n copied; 2, 3: a character put in front of n, taken from the front of n */
+/* job 0: 32 strings of n joined before themselves; 1: behind themselves; 2: n copied; 3, 4: a character put in front of
+ * n, taken from the front of n */
 int JOBS(uint8_t *store, int job, size_t n)
 {
     switch (job) {
-    case 0: return strlib_join(store, STORE, (strlib_ptr){0, 0, 60000}, all(n), false).refusal;
-    case 1: return strlib_copy(store, STORE, (strlib_ptr){0, 0, n}, full(30000, n), false).refusal;
-    case 2: return strlib_replace(store, STORE, (strlib_ptr){0, n, n + 1}, full(0, 0), full(65000, 1)).refusal;
+    case 0: return strlib_join(store, STORE, (strlib_ptr){0, 0, 60000}, all(60000, n), false).refusal;
+    case 1: return strlib_join(store, STORE, (strlib_ptr){4000, 0, 60000}, all(0, n), false).refusal;
+    case 2: return strlib_copy(store, STORE, (strlib_ptr){0, 0, n}, full(30000, n), false).refusal;
+    case 3: return strlib_replace(store, STORE, (strlib_ptr){0, n, n + 1}, full(0, 0), full(65000, 1)).refusal;
     default: return strlib_replace(store, STORE, (strlib_ptr){0, n, n}, full(0, 1), full(65000, 0)).refusal;
     }
 }
@@ -48,8 +51,12 @@ static int c(uint8_t *store, int job, size_t n)
         for (size_t i = 0; i < 32; i++)
             memcpy(store + i * n, store + 60000, n);
         break;
-    case 1: memcpy(store, store + 30000, n); break;
-    case 2:
+    case 1:
+        for (size_t i = 0; i < 32; i++)
+            memcpy(store + 4000 + i * n, store, n);
+        break;
+    case 2: memcpy(store, store + 30000, n); break;
+    case 3:
         memmove(store + 1, store, n);
         store[0] = store[65000];
         break;
@@ -95,10 +102,13 @@ int main(void)
         {"join of 32 strings, each length 1 to 16", 0, 1, 16},
         {"join of 32 strings, each length 17 to 240", 0, 17, 240},
         {"join of 32 strings of 1,875: 60,000", 0, 1875, 1875},
-        {"copy of 8", 1, 8, 8},
-        {"copy of 30,000", 1, 30000, 30000},
-        {"a character put in front of 60,000", 2, 60000, 60000},
-        {"a character taken from the front of 60,000", 3, 60000, 60000},
+        {"the same, joined behind themselves: 32 of 8", 1, 8, 8},
+        {"32 of 64", 1, 64, 64},
+        {"32 of 1,875: 60,000", 1, 1875, 1875},
+        {"copy of 8", 2, 8, 8},
+        {"copy of 30,000", 2, 30000, 30000},
+        {"a character put in front of 60,000", 3, 60000, 60000},
+        {"a character taken from the front of 60,000", 4, 60000, 60000},
     };
     uint8_t *store = malloc(STORE);
     if (!store)
@@ -112,7 +122,7 @@ int main(void)
                 fprintf(stderr, "beside: %s: refused, or other bytes\n", jobs[j].name);
                 return 1;
             }
-        for (int round = 0; round < 2000; round++)
+        for (int round = 0; round < 1000; round++)
             for (int turn = 0; turn < 3; turn++) {
                 int side = (round + turn) % 3;
                 double from = now();

@@ -2,8 +2,9 @@
 -- the front, in front of it for a move towards the back; the bytes still to be read are as they were. Assumes nothing.
 use mathlib.Core.Path.{_≡_, sym, _∙_}
 use mathlib.Core.Bool.{Bool, true, false, and-false}
+use mathlib.Core.Logic.{_⊎_, inl, inr, ⊎-elim}
 use mathlib.Core.List.{List, _++_}
-use Prim.Native.Nat.{ℕ, _+_, _-_, _%_, _≤_, _<_}
+use Prim.Native.Nat.{ℕ, _+_, _-_, _%_, _^_, _≤_, _<_, max}
 use native.Mathlib.Nat.{sub-self, add-zero, sub-zero, mod-eq-of-lt, mod-eq-sub-mod}
 use native.Mathlib.Omega.{arith}
 use lib.ListN.{length, take, drop, length-take, length-drop}
@@ -11,7 +12,7 @@ use lib.Seq.{take-add, take-all, drop-drop}
 use borrow.Author.Needs.{needs}
 use Rattle.strlib.specs.Pointer.{within}
 use Rattle.strlib.specs.Store.{put}
-use Rattle.strlib.proofs.Pointing.{within-so, is-within}
+use Rattle.strlib.proofs.Pointing.{either, within-so, is-within}
 use Rattle.strlib.proofs.Storing.{put-none, put-put, put-before, part-put, part-before, part-after, put-length}
 use Rattle.moving.specs.Moving.{moved}
 
@@ -48,14 +49,17 @@ pub down-none : (s : List ℕ) (from to : ℕ) → s ≡ down s from to 0
 unfolding down
 down-none s from to = sym (put-none s to)
 
-module _ (s t : List ℕ) (from to n i : ℕ) (e : t ≡ down s from to i) (hf : from + n ≤ length s) (ht : to ≤ from) where
-  pub down-step : (u : List ℕ) (k : ℕ) → u ≡ put t (to + i) (take k (drop (from + i) t)) → i ≤ n → u ≡ down s from to (i + k)
+module _ (s t : List ℕ) (from to n i : ℕ) (e : t ≡ down s from to i) (hf : from + n ≤ length s) (ht : to + n ≤ length s) (a : (to ≤ from) ⊎ (from + n ≤ to)) where
+  pub down-step : (u : List ℕ) (k : ℕ) → u ≡ put t (to + i) (take k (drop (from + i) t)) → i ≤ n → k ≤ n - i → u ≡ down s from to (i + k)
   unfolding down
-  down-step u k q h =
+  down-step u k q h g =
       let xs : List ℕ = take i (drop from s) in
       let zs : List ℕ = take k (drop (from + i) s) in
       let l : length xs ≡ i = part-length s from i (omega arith) in
-      let r : take k (drop (from + i) t) ≡ zs = rw e (part-after s to xs (omega arith) (from + i) k (omega arith)) in
+      let same : take k (drop (from + i) (put s to xs)) ≡ zs =
+      ⊎-elim (λ b. part-after s to xs (omega arith) (from + i) k (omega arith)) (λ b. part-before s to xs (omega arith) (from + i) k (omega arith)) a
+      in
+      let r : take k (drop (from + i) t) ≡ zs = rw e same in
       let m : put (put s to xs) (to + length xs) zs ≡ put s to (xs ++ zs) = put-put s to xs (omega arith) zs in
       q ∙ rw (r, e, take-add i k (drop from s), drop-drop i from s) (rw l at m)
 
@@ -112,12 +116,15 @@ up-is s t from to n i k w e m f l =
 
 -- all but the last n % 8 are moved, then these
 pub down-end : (s t u : List ℕ) (from to n : ℕ) → t ≡ put s to (take (n - n % 8) (drop from s)) → u ≡ put t (to + (n - n % 8)) (take (n % 8 - n % 8 % 1) (drop (from + (n - n % 8)) t))
-    → from + n ≤ length s → to ≤ from → u ≡ put s to (take n (drop from s))
+    → from + n ≤ length s → to + n ≤ length s → (to ≤ from) ⊎ (from + n ≤ to) → u ≡ put s to (take n (drop from s))
 unfolding down
-down-end s t u from to n e q hf ht =
+down-end s t u from to n e q hf ht a =
     let z : n % 8 - n % 8 % 1 ≡ n % 8 = omega arith in
     let j : n - n % 8 + n % 8 ≡ n = omega arith in
-    down-step s t from to n (n - n % 8) e hf ht u (n % 8) (rw z at q) (omega arith) ∙ rw j
+    down-step s t from to n (n - n % 8) e hf ht a u (n % 8) (rw z at q) (omega arith) (omega arith) ∙ rw j
+
+pub rest-ahead : (from to n : ℕ) → (to ≤ from) ⊎ (from + n ≤ to) → (to + (n - n % 8) ≤ from + (n - n % 8)) ⊎ (from + (n - n % 8) + n % 8 ≤ to + (n - n % 8))
+rest-ahead from to n a = ⊎-elim (λ h. inl (omega arith)) (λ h. inr (omega arith)) a
 
 -- all but the first i are moved, then all of these but the first j
 module _ (s t : List ℕ) (from to n i : ℕ) (e : t ≡ up s from to n i) (ht : to + n ≤ length s) (hf : from ≤ to) where
@@ -140,34 +147,59 @@ up-end s t u v from to n e q r ht hf =
 
 -- ---- the leaf
 
-module _ (s : List ℕ) (from to n : ℕ) where
-  -- within the store it is what `put` writes
-  pub moved-in : from + n ≤ length s → to + n ≤ length s → moved s from to n ≡ put s to (take n (drop from s))
+-- within the store it is what `put` writes
+pub moved-in : (s : List ℕ) (from to n : ℕ) → from + n ≤ length s → to + n ≤ length s → moved s from to n ≡ put s to (take n (drop from s))
+unfolding moved
+moved-in s from to n h k = rw (is-within (length s) from n h, is-within (length s) to n k)
+
+-- g is where the later of the two places begins
+module _ (s : List ℕ) (from to n g : ℕ) (b : Bool) (a : g ≡ max from to) (e : b ≡ within (length s) g n) where
+  pub moved-none : b ≡ false → s ≡ moved s from to n
   unfolding moved
-  moved-in h k = rw (is-within (length s) from n h, is-within (length s) to n k)
+  moved-none f =
+      either
+      from
+      to
+      (λ h. let m : g ≡ to = omega arith in
+      let z : within (length s) to n ≡ false = rw m at (sym e ∙ f) in
+      rw (z, and-false))
+      (λ h. let m : g ≡ from = omega arith in
+      let z : within (length s) from n ≡ false = rw m at (sym e ∙ f) in
+      rw z)
 
-  module _ (b : Bool) where
-    pub moved-none-down : b ≡ within (length s) from n → b ≡ false → s ≡ moved s from to n
-    unfolding moved
-    moved-none-down e f = rw (← e, f)
+  module _ (f : b ≡ true) where
+    lies : g + n ≤ length s
+    lies = within-so (length s) g n b e f
 
-    pub moved-none-up : b ≡ within (length s) to n → b ≡ false → s ≡ moved s from to n
-    unfolding moved
-    moved-none-up e f = rw (← e, f, and-false)
+    pub from-lies : from + n ≤ length s
+    from-lies = omega (arith, lies)
 
-    module _ (t : List ℕ) (p : t ≡ put s to (take n (drop from s))) where
-      pub moved-down : b ≡ within (length s) from n → b ≡ true → to ≤ from → t ≡ moved s from to n
-      moved-down e f h =
-          let k : from + n ≤ length s = within-so (length s) from n b e f in
-          p ∙ sym (moved-in k (omega arith))
+    pub to-lies : to + n ≤ length s
+    to-lies = omega (arith, lies)
 
-      pub moved-up : b ≡ within (length s) to n → b ≡ true → from < to → t ≡ moved s from to n
-      moved-up e f h =
-          let k : to + n ≤ length s = within-so (length s) to n b e f in
-          p ∙ sym (moved-in (omega arith) k)
+    pub moved-done : (t : List ℕ) → t ≡ put s to (take n (drop from s)) → t ≡ moved s from to n
+    moved-done t p = p ∙ sym (moved-in s from to n from-lies to-lies)
+
+    -- `to` less `from`, wrapped round, is under n exactly if the target begins within the source
+    module _ (r : ℕ) (w : (r + from) % 2 ^ 64 ≡ to) (l : length s < 2 ^ 64) where
+      pub goes-up : r < n → from ≤ to
+      goes-up h =
+          let g : r + from < 2 ^ 64 = omega (arith, from-lies) in
+          let j : r + from ≡ to = sym (mod-eq-of-lt g) ∙ w in
+          omega arith
+
+      pub goes-down : n ≤ r → r < 2 ^ 64 → (to ≤ from) ⊎ (from + n ≤ to)
+      goes-down h k =
+          either
+          (2 ^ 64)
+          (r + from)
+          (λ g. let m : r + from - 2 ^ 64 < 2 ^ 64 = omega (arith, from-lies) in
+          let j : r + from - 2 ^ 64 ≡ to = sym (mod-eq-of-lt m) ∙ sym (mod-eq-sub-mod g) ∙ w in
+          inl (omega arith))
+          (λ g. let j : r + from ≡ to = sym (mod-eq-of-lt g) ∙ w in inr (omega arith))
 
 pub ruleset down-laws = (needs, down-none, down-step, left-all, left-down, down-is)
 
-pub ruleset up-laws = (needs, up-none, up-step, left-up, up-is)
+pub ruleset up-laws = (needs, up-none, up-step, left-all, left-up, up-is)
 
-pub ruleset move-laws = (needs, within-so, moved-none-down, moved-none-up, moved-down, moved-up)
+pub ruleset move-laws = (needs, moved-none, from-lies, to-lies, moved-done, goes-up, goes-down)

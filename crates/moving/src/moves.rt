@@ -1,7 +1,8 @@
 // The one leaf through which characters are moved.
 use super::bytes::paste;
 ghost use mathlib.Core.Path.{_≡_};
-ghost use Prim.Native.Nat.{_+_, _-_, _%_, _≤_, _<_};
+ghost use mathlib.Core.Logic.{_⊎_};
+ghost use Prim.Native.Nat.{_+_, _-_, _%_, _≤_, _<_, max};
 ghost use lib.ListN.{length, take, drop};
 ghost use Rattle.strlib.specs.Store.{put};
 ghost use Rattle.moving.specs.Moving.{moved};
@@ -16,9 +17,10 @@ fn step(store: &mut [u8], from: usize, to: usize, block: &mut [u8])
     paste(store, to, block);
 }
 
-// From front to back, steps as wide as the block while so many are left: all characters but the last n % width.
+// From front to back, steps as wide as the block while so many are left: all characters but the last n % width. The
+// target lies before the source, or behind all of it.
 fn steps_down(store: &mut [u8], from: usize, to: usize, n: usize, block: &mut [u8])
-    requires { ⌜ (from + n ≤ length (now store)) × (to ≤ from) × (0 < length (now block)) ⌝ }
+    requires { ⌜ (from + n ≤ length (now store)) × (to + n ≤ length (now store)) × ((to ≤ from) ⊎ (from + n ≤ to)) × (0 < length (now block)) ⌝ }
     ensures { λ _. ⌜ now (store .exit) ≡ put (now (store .entry)) to (take (n - n % length (now (block .entry))) (drop from (now (store .entry)))) ⌝ }
 {
     let mut i = 0;
@@ -41,11 +43,11 @@ fn steps_up(store: &mut [u8], from: usize, to: usize, n: usize, block: &mut [u8]
     }
 }
 
-// A move towards the front: eight a step while eight are left, the rest singly. These steps are compiled to 32 bytes a
+// A move from front to back: eight a step while eight are left, the rest singly. These steps are compiled to 32 bytes a
 // turn, written in the store's order. A step of 64 would be compiled to one written from its back to its front, which
 // takes nearly twice as long where the target is not in the nearest cache.
 fn move_down(store: &mut [u8], from: usize, to: usize, n: usize)
-    requires { ⌜ (from + n ≤ length (now store)) × (to ≤ from) ⌝ }
+    requires { ⌜ (from + n ≤ length (now store)) × (to + n ≤ length (now store)) × ((to ≤ from) ⊎ (from + n ≤ to)) ⌝ }
     ensures { λ _. ⌜ now (store .exit) ≡ put (now (store .entry)) to (take n (drop from (now (store .entry)))) ⌝ }
 {
     let mut eight = [0u8; 8];
@@ -55,7 +57,7 @@ fn move_down(store: &mut [u8], from: usize, to: usize, n: usize)
     steps_down(store, from + (n - rest), to + (n - rest), rest, &mut one);
 }
 
-// A move towards the back: 64 a step while 64 are left, then eight while eight are left, the rest singly.
+// A move from back to front: 64 a step while 64 are left, then eight while eight are left, the rest singly.
 fn move_up(store: &mut [u8], from: usize, to: usize, n: usize)
     requires { ⌜ (to + n ≤ length (now store)) × (from ≤ to) ⌝ }
     ensures { λ _. ⌜ now (store .exit) ≡ put (now (store .entry)) to (take n (drop from (now (store .entry)))) ⌝ }
@@ -70,17 +72,23 @@ fn move_up(store: &mut [u8], from: usize, to: usize, n: usize)
     steps_up(store, from, to, rest, &mut one);
 }
 
-// Moves n characters within the store, as they were at entry; the two places may overlap.
+fn greatest(m: usize, n: usize) -> usize
+    ensures { λ r. ⌜ r ≡ max m n ⌝ }
+{
+    if m < n { n } else { m }
+}
+
+// Moves n characters within the store, as they were at entry; the two places may overlap. From back to front only where
+// the target begins within the source: else the store's order is the faster one.
 pub fn move_characters(store: &mut [u8], from: usize, to: usize, n: usize)
     ensures { λ _. ⌜ now (store .exit) ≡ moved (now (store .entry)) from to n ⌝ }
 {
-    if to <= from {
-        if strlib::is_within(store.len(), from, n) {
-            move_down(store, from, to, n)
-        }
-    } else {
-        if strlib::is_within(store.len(), to, n) {
+    if strlib::is_within(store.len(), greatest(from, to), n) {
+        // a target before the source wraps round, to more than any n
+        if std::num::wrapping_sub_usize(to, from) < n {
             move_up(store, from, to, n)
+        } else {
+            move_down(store, from, to, n)
         }
     }
 }

@@ -6,11 +6,11 @@ pub move-characters-spec : {M : Type 1} → statement M
 move-characters-spec =
     tie.close
     (tie.spec
-    (λ c κs. tt)
     (λ c κs. search move-laws)
-    (λ c κs. tt)
     (λ c κs. search move-laws)
-    (λ c. search move-laws)
+    (λ c κs. search move-laws)
+    (λ c κs. search move-laws)
+    (λ c κs. search move-laws)
     (λ c. search move-laws)
     (λ c. search move-laws)
     (λ c. search move-laws)

@@ -1,5 +1,5 @@
 use borrow.Author.Needs.{needs}
-use Rattle.moving.proofs.Moving.{down-end}
+use Rattle.moving.proofs.Moving.{down-end, rest-ahead}
 use Rattle.moving.proofs.moves.move_down.Statement.{statement}
 use Rattle.moving.proofs.moves.move_down.Tie as tie
 
@@ -14,6 +14,6 @@ move-down-spec =
     (λ c. search needs)
     (λ c. search needs)
     (λ c. search needs)
-    (λ c κs. search needs)
+    (λ c κs. search (needs, rest-ahead))
     (λ c. search needs)
     (λ c. search (needs, down-end)))

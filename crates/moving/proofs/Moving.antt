@@ -201,5 +201,3 @@ module _ (s : List ℕ) (from to n g : ℕ) (b : Bool) (a : g ≡ max from to) (
 pub ruleset down-laws = (needs, down-none, down-step, left-all, left-down, down-is)
 
 pub ruleset up-laws = (needs, up-none, up-step, left-all, left-up, up-is)
-
-pub ruleset move-laws = (needs, moved-none, from-lies, to-lies, moved-done, goes-up, goes-down)

@@ -1,4 +1,5 @@
-use Rattle.moving.proofs.Moving.{move-laws}
+use borrow.Author.Needs.{needs}
+use Rattle.moving.proofs.Moving.{moved-none, from-lies, to-lies, moved-done, goes-up, goes-down}
 use Rattle.moving.proofs.moves.move_characters.Statement.{statement}
 use Rattle.moving.proofs.moves.move_characters.Tie as tie
 
@@ -6,13 +7,13 @@ pub move-characters-spec : {M : Type 1} → statement M
 move-characters-spec =
     tie.close
     (tie.spec
-    (λ c κs. search move-laws)
-    (λ c κs. search move-laws)
-    (λ c κs. search move-laws)
-    (λ c κs. search move-laws)
-    (λ c κs. search move-laws)
-    (λ c. search move-laws)
-    (λ c. search move-laws)
-    (λ c. search move-laws)
-    (λ c. search move-laws)
-    (λ c. search move-laws))
+    (λ c κs. tt)
+    (λ c κs. tt)
+    (λ c κs. tt)
+    (λ c κs. (search (needs, to-lies), search (needs, goes-up)))
+    (λ c κs. (search (needs, from-lies), search (needs, to-lies), search (needs, goes-down)))
+    (λ c. search needs)
+    (λ c. search (needs, moved-done))
+    (λ c. search needs)
+    (λ c. search (needs, moved-done))
+    (λ c. search (needs, moved-none)))

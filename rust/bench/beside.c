@@ -1,5 +1,5 @@
 /* With JOBS defined: the calls that are timed, of one library. Without: the run that times two libraries, and C, in
- * turns, after it has seen that both leave the same bytes. */
+ * turns, after it has seen that all leave the same bytes. */
 #include <stdint.h>
 #include <string.h>
 
@@ -10,7 +10,7 @@
 
 static strlib_ptr full(size_t start, size_t length) { return (strlib_ptr){start, length, length}; }
 
-/* The list of a length is made once; that it is passed by value is part of the call. */
+/* The list of a place and a length is made once; that it is passed by value is part of the call. */
 static strlib_list all(size_t start, size_t n)
 {
     static strlib_list lists[2][1876];
@@ -102,9 +102,9 @@ int main(void)
         {"join of 32 strings, each length 1 to 16", 0, 1, 16},
         {"join of 32 strings, each length 17 to 240", 0, 17, 240},
         {"join of 32 strings of 1,875: 60,000", 0, 1875, 1875},
-        {"the same, joined behind themselves: 32 of 8", 1, 8, 8},
-        {"32 of 64", 1, 64, 64},
-        {"32 of 1,875: 60,000", 1, 1875, 1875},
+        {"join behind themselves, 32 strings of 8", 1, 8, 8},
+        {"join behind themselves, 32 strings of 64", 1, 64, 64},
+        {"join behind themselves, 32 strings of 1,875", 1, 1875, 1875},
         {"copy of 8", 2, 8, 8},
         {"copy of 30,000", 2, 30000, 30000},
         {"a character put in front of 60,000", 3, 60000, 60000},

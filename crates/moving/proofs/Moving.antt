@@ -1,5 +1,5 @@
--- Laws of the moving leaf. What is moved is what `put` writes, some bytes more each step: behind it for a move towards
--- the front, in front of it for a move towards the back; the bytes still to be read are as they were. Assumes nothing.
+-- Laws of the moving leaf. What is moved is what `put` writes, some bytes more each step: behind it for a move from front
+-- to back, in front of it for one from back to front; the bytes still to be read are as they were. Assumes nothing.
 use mathlib.Core.Path.{_≡_, sym, _∙_}
 use mathlib.Core.Bool.{Bool, true, false, and-false}
 use mathlib.Core.Logic.{_⊎_, inl, inr, ⊎-elim}
@@ -83,9 +83,9 @@ module _ (s t : List ℕ) (from to n i : ℕ) (e : t ≡ up s from to n i) (ht :
       let m : put (put s (to + j + length xs) ys) (to + j) xs ≡ put s (to + j) (xs ++ ys) = put-before s (to + j) xs ys (omega arith) in
       q ∙ rw (r, e, b, take-add k (n - i) (drop (from + j) s), drop-drop k (from + j) s, f) (rw (l, a) at m)
 
--- what is left of n bytes by steps of k: its remainder stays
-pub left-all : (n k : ℕ) → (n - 0) % k ≡ n % k
-left-all n k = rw sub-zero
+-- modulo the width w, what is left of n bytes stays the same
+pub left-all : (n w : ℕ) → (n - 0) % w ≡ n % w
+left-all n w = rw sub-zero
 
 pub left-down : (n i k w : ℕ) → (n - i) % w ≡ n % w → k ≡ w → k ≤ n - i → (n - (i + k)) % w ≡ n % w
 left-down n i k w e f h =
@@ -134,7 +134,7 @@ module _ (s t : List ℕ) (from to n i : ℕ) (e : t ≡ up s from to n i) (ht :
       let p : u ≡ put t (to + (i - (i - j))) (take (i - j) (drop (from + (i - (i - j))) t)) = q ∙ rw y in
       rw y at (up-step s t from to n i e ht hf u (i - j) p (omega arith) g)
 
--- all but the first n % 64 are moved, then all of these but the first of them % 8, then these
+-- all but the first n % 64 are moved, then of these all but the first n % 64 % 8, then the rest
 pub up-end : (s t u v : List ℕ) (from to n : ℕ) → t ≡ put s (to + n % 64) (take (n - n % 64) (drop (from + n % 64) s))
     → u ≡ put t (to + n % 64 % 8) (take (n % 64 - n % 64 % 8) (drop (from + n % 64 % 8) t))
     → v ≡ put u (to + n % 64 % 8 % 1) (take (n % 64 % 8 - n % 64 % 8 % 1) (drop (from + n % 64 % 8 % 1) u)) → to + n ≤ length s → from ≤ to → v ≡ put s to (take n (drop from s))
@@ -146,11 +146,6 @@ up-end s t u v from to n e q r ht hf =
     rw (add-zero to, add-zero from, sub-zero) at b
 
 -- ---- the leaf
-
--- within the store it is what `put` writes
-pub moved-in : (s : List ℕ) (from to n : ℕ) → from + n ≤ length s → to + n ≤ length s → moved s from to n ≡ put s to (take n (drop from s))
-unfolding moved
-moved-in s from to n h k = rw (is-within (length s) from n h, is-within (length s) to n k)
 
 -- g is where the later of the two places begins
 module _ (s : List ℕ) (from to n g : ℕ) (b : Bool) (a : g ≡ max from to) (e : b ≡ within (length s) g n) where
@@ -178,14 +173,16 @@ module _ (s : List ℕ) (from to n g : ℕ) (b : Bool) (a : g ≡ max from to) (
     to-lies = omega (arith, lies)
 
     pub moved-done : (t : List ℕ) → t ≡ put s to (take n (drop from s)) → t ≡ moved s from to n
-    moved-done t p = p ∙ sym (moved-in s from to n from-lies to-lies)
+    unfolding moved
+    moved-done t p = p ∙ rw (is-within (length s) from n from-lies, is-within (length s) to n to-lies)
 
-    -- `to` less `from`, wrapped round, is under n exactly if the target begins within the source
+    -- r is `to` less `from`, wrapped round: under n the target begins no earlier than the source, else no later or behind
+    -- all of it
     module _ (r : ℕ) (w : (r + from) % 2 ^ 64 ≡ to) (l : length s < 2 ^ 64) where
       pub goes-up : r < n → from ≤ to
       goes-up h =
-          let g : r + from < 2 ^ 64 = omega (arith, from-lies) in
-          let j : r + from ≡ to = sym (mod-eq-of-lt g) ∙ w in
+          let m : r + from < 2 ^ 64 = omega (arith, from-lies) in
+          let j : r + from ≡ to = sym (mod-eq-of-lt m) ∙ w in
           omega arith
 
       pub goes-down : n ≤ r → r < 2 ^ 64 → (to ≤ from) ⊎ (from + n ≤ to)
@@ -193,11 +190,11 @@ module _ (s : List ℕ) (from to n g : ℕ) (b : Bool) (a : g ≡ max from to) (
           either
           (2 ^ 64)
           (r + from)
-          (λ g. let m : r + from - 2 ^ 64 < 2 ^ 64 = omega (arith, from-lies) in
-          let j : r + from - 2 ^ 64 ≡ to = sym (mod-eq-of-lt m) ∙ sym (mod-eq-sub-mod g) ∙ w in
+          (λ o. let m : r + from - 2 ^ 64 < 2 ^ 64 = omega (arith, from-lies) in
+          let j : r + from - 2 ^ 64 ≡ to = sym (mod-eq-of-lt m) ∙ sym (mod-eq-sub-mod o) ∙ w in
           inl (omega arith))
-          (λ g. let j : r + from ≡ to = sym (mod-eq-of-lt g) ∙ w in inr (omega arith))
+          (λ o. let j : r + from ≡ to = sym (mod-eq-of-lt o) ∙ w in inr (omega arith))
 
 pub ruleset down-laws = (needs, down-none, down-step, left-all, left-down, down-is)
 
-pub ruleset up-laws = (needs, up-none, up-step, left-all, left-up, up-is)
+pub ruleset up-laws = (needs, up-none, up-step, left-up, up-is)

@@ -18,7 +18,7 @@ fn step(store: &mut [u8], from: usize, to: usize, block: &mut [u8])
 }
 
 // From front to back, steps as wide as the block while so many are left: all characters but the last n % width. The
-// target lies before the source, or behind all of it.
+// target begins no later than the source, or behind all of it.
 fn steps_down(store: &mut [u8], from: usize, to: usize, n: usize, block: &mut [u8])
     requires { ⌜ (from + n ≤ length (now store)) × (to + n ≤ length (now store)) × ((to ≤ from) ⊎ (from + n ≤ to)) × (0 < length (now block)) ⌝ }
     ensures { λ _. ⌜ now (store .exit) ≡ put (now (store .entry)) to (take (n - n % length (now (block .entry))) (drop from (now (store .entry)))) ⌝ }
@@ -31,7 +31,8 @@ fn steps_down(store: &mut [u8], from: usize, to: usize, n: usize, block: &mut [u
     }
 }
 
-// From back to front, steps as wide as the block while so many are left: all characters but the first n % width.
+// From back to front, steps as wide as the block while so many are left: all characters but the first n % width. The
+// target begins no earlier than the source.
 fn steps_up(store: &mut [u8], from: usize, to: usize, n: usize, block: &mut [u8])
     requires { ⌜ (to + n ≤ length (now store)) × (from ≤ to) × (0 < length (now block)) ⌝ }
     ensures { λ _. ⌜ now (store .exit) ≡ put (now (store .entry)) (to + n % length (now (block .entry))) (take (n - n % length (now (block .entry))) (drop (from + n % length (now (block .entry))) (now (store .entry)))) ⌝ }
@@ -43,9 +44,9 @@ fn steps_up(store: &mut [u8], from: usize, to: usize, n: usize, block: &mut [u8]
     }
 }
 
-// A move from front to back: eight a step while eight are left, the rest singly. These steps are compiled to 32 bytes a
-// turn, written in the store's order. A step of 64 would be compiled to one written from its back to its front, which
-// takes nearly twice as long where the target is not in the nearest cache.
+// A move from front to back: eight a step while eight are left, the rest singly. Compiled, four such steps are one turn
+// where the places lie 32 bytes apart or more, written in the store's order; a step of 64 would be written from its back
+// to its front, which takes nearly twice as long where the target is not in the nearest cache.
 fn move_down(store: &mut [u8], from: usize, to: usize, n: usize)
     requires { ⌜ (from + n ≤ length (now store)) × (to + n ≤ length (now store)) × ((to ≤ from) ⊎ (from + n ≤ to)) ⌝ }
     ensures { λ _. ⌜ now (store .exit) ≡ put (now (store .entry)) to (take n (drop from (now (store .entry)))) ⌝ }
@@ -84,7 +85,7 @@ pub fn move_characters(store: &mut [u8], from: usize, to: usize, n: usize)
     ensures { λ _. ⌜ now (store .exit) ≡ moved (now (store .entry)) from to n ⌝ }
 {
     if strlib::is_within(store.len(), greatest(from, to), n) {
-        // a target before the source wraps round, to more than any n
+        // a target before the source wraps round, to more than n, since from + n lies within the store
         if std::num::wrapping_sub_usize(to, from) < n {
             move_up(store, from, to, n)
         } else {

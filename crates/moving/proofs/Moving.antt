@@ -147,6 +147,11 @@ up-end s t u v from to n e q r ht hf =
 
 -- ---- the leaf
 
+-- within the store it is what `put` writes
+pub moved-in : (s : List ℕ) (from to n : ℕ) → from + n ≤ length s → to + n ≤ length s → moved s from to n ≡ put s to (take n (drop from s))
+unfolding moved
+moved-in s from to n h k = rw (is-within (length s) from n h, is-within (length s) to n k)
+
 -- g is where the later of the two places begins
 module _ (s : List ℕ) (from to n g : ℕ) (b : Bool) (a : g ≡ max from to) (e : b ≡ within (length s) g n) where
   pub moved-none : b ≡ false → s ≡ moved s from to n
@@ -173,8 +178,7 @@ module _ (s : List ℕ) (from to n g : ℕ) (b : Bool) (a : g ≡ max from to) (
     to-lies = omega (arith, lies)
 
     pub moved-done : (t : List ℕ) → t ≡ put s to (take n (drop from s)) → t ≡ moved s from to n
-    unfolding moved
-    moved-done t p = p ∙ rw (is-within (length s) from n from-lies, is-within (length s) to n to-lies)
+    moved-done t p = p ∙ sym (moved-in s from to n from-lies to-lies)
 
     -- r is `to` less `from`, wrapped round: under n the target begins no earlier than the source, else no later or behind
     -- all of it

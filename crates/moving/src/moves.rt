@@ -2,7 +2,7 @@
 use super::bytes::paste;
 ghost use mathlib.Core.Path.{_≡_};
 ghost use mathlib.Core.Logic.{_⊎_};
-ghost use Prim.Native.Nat.{_+_, _-_, _%_, _≤_, _<_, max};
+ghost use Prim.Native.Nat.{_+_, _-_, _%_, _≤_, _<_};
 ghost use lib.ListN.{length, take, drop};
 ghost use Rattle.strlib.specs.Store.{put};
 ghost use Rattle.moving.specs.Moving.{moved};
@@ -23,11 +23,12 @@ fn steps_down(store: &mut [u8], from: usize, to: usize, n: usize, block: &mut [u
     requires { ⌜ (from + n ≤ length (now store)) × (to + n ≤ length (now store)) × ((to ≤ from) ⊎ (from + n ≤ to)) × (0 < length (now block)) ⌝ }
     ensures { λ _. ⌜ now (store .exit) ≡ put (now (store .entry)) to (take (n - n % length (now (block .entry))) (drop from (now (store .entry)))) ⌝ }
 {
-    let mut i = 0;
-    while block.len() <= n - i {
-        let k = block.len();
-        step(store, from + i, to + i, block);
-        i += k;
+    let k = block.len();
+    let m = n / k;
+    let mut j = 0;
+    while j < m {
+        step(store, from + k * j, to + k * j, block);
+        j += 1;
     }
 }
 
@@ -73,23 +74,19 @@ fn move_up(store: &mut [u8], from: usize, to: usize, n: usize)
     steps_up(store, from, to, rest, &mut one);
 }
 
-fn greatest(m: usize, n: usize) -> usize
-    ensures { λ r. ⌜ r ≡ max m n ⌝ }
-{
-    if m < n { n } else { m }
-}
-
 // Moves n characters within the store, as they were at entry; the two places may overlap. From back to front only where
 // the target begins within the source: else the store's order is the faster one.
 pub fn move_characters(store: &mut [u8], from: usize, to: usize, n: usize)
     ensures { λ _. ⌜ now (store .exit) ≡ moved (now (store .entry)) from to n ⌝ }
 {
-    if strlib::is_within(store.len(), greatest(from, to), n) {
-        // a target before the source wraps round, to more than n, since from + n lies within the store
-        if std::num::wrapping_sub_usize(to, from) < n {
-            move_up(store, from, to, n)
-        } else {
-            move_down(store, from, to, n)
+    if strlib::is_within(store.len(), from, n) {
+        if strlib::is_within(store.len(), to, n) {
+            // a target before the source wraps round, to more than n, since from + n lies within the store
+            if std::num::wrapping_sub_usize(to, from) < n {
+                move_up(store, from, to, n)
+            } else {
+                move_down(store, from, to, n)
+            }
         }
     }
 }

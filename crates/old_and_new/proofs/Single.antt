@@ -1,6 +1,6 @@
 -- Laws of the old loops: a turn is a step of one byte. Assumes nothing.
 use mathlib.Core.Path.{_≡_, _∙_}
-use mathlib.Core.Bool.{Bool, true, false}
+use mathlib.Core.Bool.{Bool, true}
 use mathlib.Core.Logic.{inl}
 use mathlib.Core.List.{List}
 use Prim.Native.Nat.{ℕ, _+_, _-_, _≤_, _<_}
@@ -14,7 +14,7 @@ use Rattle.strlib.specs.Store.{put}
 use Rattle.strlib.proofs.Pointing.{within-so}
 use Rattle.strlib.proofs.Storing.{set-put}
 use Rattle.moving.specs.Moving.{moved}
-use Rattle.moving.proofs.Moving.{down, down-none, down-step, up, up-none, up-step, moved-none, moved-done}
+use Rattle.moving.proofs.Moving.{down, down-none, down-step, up, up-none, up-step, moved-from, moved-to, moved-done}
 
 one : (t : List ℕ) (from to : ℕ) → from < length t → to < length t → set t to (getD t from 0) ≡ put t to (take 1 (drop from t))
 one t from to h k = rw (drop-cons t from 0 h) (set-put t to (getD t from 0) k)
@@ -39,18 +39,15 @@ module _ (s t : List ℕ) (from to n i : ℕ) where
 
 -- ---- the leaf of before, which asked for the direction first
 
-module _ (s : List ℕ) (from to n : ℕ) (b : Bool) where
-  pub moved-none-down : b ≡ within (length s) from n → b ≡ false → to ≤ from → s ≡ moved s from to n
-  moved-none-down e f h = moved-none s from to n from b (omega arith) e f
+module _ (s t : List ℕ) (from to n : ℕ) (b : Bool) (p : t ≡ put s to (take n (drop from s))) where
+  pub moved-down : b ≡ within (length s) from n → b ≡ true → to ≤ from → t ≡ moved s from to n
+  moved-down e f h =
+      let k : from + n ≤ length s = within-so (length s) from n b e f in
+      moved-done s t from to n p k (omega arith)
 
-  pub moved-none-up : b ≡ within (length s) to n → b ≡ false → from < to → s ≡ moved s from to n
-  moved-none-up e f h = moved-none s from to n to b (omega arith) e f
+  pub moved-up : b ≡ within (length s) to n → b ≡ true → from < to → t ≡ moved s from to n
+  moved-up e f h =
+      let k : to + n ≤ length s = within-so (length s) to n b e f in
+      moved-done s t from to n p (omega arith) k
 
-  module _ (t : List ℕ) (p : t ≡ put s to (take n (drop from s))) where
-    pub moved-down : b ≡ within (length s) from n → b ≡ true → to ≤ from → t ≡ moved s from to n
-    moved-down e f h = moved-done s from to n from b (omega arith) e f t p
-
-    pub moved-up : b ≡ within (length s) to n → b ≡ true → from < to → t ≡ moved s from to n
-    moved-up e f h = moved-done s from to n to b (omega arith) e f t p
-
-pub ruleset single-laws = (needs, down-none, down-one, down-all, up-none, up-one, up-all, within-so, moved-none-down, moved-none-up, moved-down, moved-up)
+pub ruleset single-laws = (needs, down-none, down-one, down-all, up-none, up-one, up-all, within-so, moved-from, moved-to, moved-down, moved-up)

@@ -1,5 +1,6 @@
 use borrow.Author.Needs.{needs}
-use Rattle.moving.proofs.Moving.{moved-none, from-lies, to-lies, moved-done, goes-up, goes-down}
+use Rattle.strlib.proofs.Pointing.{within-so}
+use Rattle.moving.proofs.Moving.{moved-from, moved-to, moved-done, goes-up, goes-down}
 use Rattle.moving.proofs.moves.move_characters.Statement.{statement}
 use Rattle.moving.proofs.moves.move_characters.Tie as tie
 
@@ -10,10 +11,15 @@ move-characters-spec =
     (λ c κs. tt)
     (λ c κs. tt)
     (λ c κs. tt)
-    (λ c κs. (search (needs, to-lies), search (needs, goes-up)))
-    (λ c κs. (search (needs, from-lies), search (needs, to-lies), search (needs, goes-down)))
+    (λ c κs. (search (needs, within-so), search (needs, goes-up _ _ _ _ _ (c .before .before .before .before .before .before .is-within .ensures) (search needs) _ (c .before .before .wrapping-sub-usize .ensures))))
+    (λ c κs. (
+      within-so _ _ _ _ (c .before .before .before .before .before .before .is-within .ensures) (search needs),
+      search (needs, within-so),
+      search (needs, goes-down _ _ _ _ _ (c .before .before .before .before .before .before .is-within .ensures) (search needs) _ (c .before .before .wrapping-sub-usize .ensures)),
+    ))
     (λ c. search needs)
-    (λ c. search (needs, moved-done))
+    (λ c. search (needs, within-so, moved-done))
     (λ c. search needs)
-    (λ c. search (needs, moved-done))
-    (λ c. search (needs, moved-none)))
+    (λ c. search (needs, within-so, moved-done))
+    (λ c. search (needs, moved-to))
+    (λ c. search (needs, moved-from)))

@@ -4,9 +4,8 @@ use mathlib.Core.Path.{_≡_, sym, _∙_}
 use mathlib.Core.Bool.{Bool, true, false, and-false}
 use mathlib.Core.Logic.{_⊎_, inl, inr, ⊎-elim}
 use mathlib.Core.List.{List, _++_}
-use Prim.Native.Nat.{ℕ, suc, _+_, _-_, _*_, _/_, _%_, _^_, _≤_, _<_}
-use native.Mathlib.Nat.{sub-self, add-zero, sub-zero, mul-zero, mul-suc, mul-le-mul-left, mul-div-le, div-le-self, mod-def, mod-eq-of-lt, mod-eq-sub-mod}
-use native.Mathlib.Numerals.{add-one}
+use Prim.Native.Nat.{ℕ, _+_, _-_, _%_, _^_, _≤_, _<_}
+use native.Mathlib.Nat.{sub-self, add-zero, sub-zero, mod-eq-of-lt, mod-eq-sub-mod}
 use native.Mathlib.Omega.{arith}
 use lib.ListN.{length, take, drop, length-take, length-drop}
 use lib.Seq.{take-add, take-all, drop-drop}
@@ -50,9 +49,6 @@ pub down-none : (s : List ℕ) (from to : ℕ) → s ≡ down s from to 0
 unfolding down
 down-none s from to = sym (put-none s to)
 
-pub down-start : (s : List ℕ) (from to k : ℕ) → s ≡ down s from to (k * 0)
-down-start s from to k = rw mul-zero (down-none s from to)
-
 module _ (s t : List ℕ) (from to n i : ℕ) (e : t ≡ down s from to i) (hf : from + n ≤ length s) (ht : to + n ≤ length s) (a : (to ≤ from) ⊎ (from + n ≤ to)) where
   pub down-step : (u : List ℕ) (k : ℕ) → u ≡ put t (to + i) (take k (drop (from + i) t)) → i ≤ n → k ≤ n - i → u ≡ down s from to (i + k)
   unfolding down
@@ -66,12 +62,6 @@ module _ (s t : List ℕ) (from to n i : ℕ) (e : t ≡ down s from to i) (hf :
       let r : take k (drop (from + i) t) ≡ zs = rw e same in
       let m : put (put s to xs) (to + length xs) zs ≡ put s to (xs ++ zs) = put-put s to xs (omega arith) zs in
       q ∙ rw (r, e, take-add i k (drop from s), drop-drop i from s) (rw l at m)
-
-pub down-turn : (s t u : List ℕ) (from to n k w j : ℕ) → t ≡ down s from to (k * j) → from + n ≤ length s → to + n ≤ length s → (to ≤ from) ⊎ (from + n ≤ to) → u ≡ put t (to + k * j) (take w (drop (from + k * j) t)) → w ≡ k → k * j + k ≤ n → u ≡ down s from to (k * (j + 1))
-down-turn s t u from to n k w j e hf ht a q f r =
-    let c : k * (j + 1) ≡ k * j + k = rw add-one (mul-suc k j) in
-    let v : u ≡ put t (to + k * j) (take k (drop (from + k * j) t)) = q ∙ rw f in
-    down-step s t from to n (k * j) e hf ht a u k v (omega arith) (omega arith) ∙ rw c
 
 pub up-none : (s : List ℕ) (from to n : ℕ) → s ≡ up s from to n n
 unfolding up
@@ -93,30 +83,27 @@ module _ (s t : List ℕ) (from to n i : ℕ) (e : t ≡ up s from to n i) (ht :
       let m : put (put s (to + j + length xs) ys) (to + j) xs ≡ put s (to + j) (xs ++ ys) = put-before s (to + j) xs ys (omega arith) in
       q ∙ rw (r, e, b, take-add k (n - i) (drop (from + j) s), drop-drop k (from + j) s, f) (rw (l, a) at m)
 
--- j of n / k steps are made: there is room for one more, as wide
-pub room : (n k j : ℕ) → j < n / k → k * j + k ≤ n
-room n k j h =
-    let a : k * suc j ≤ k * (n / k) = mul-le-mul-left k (omega arith) in
-    let b : k * (n / k) ≤ n = mul-div-le n k in
-    let c : k * suc j ≡ k * j + k = mul-suc k j in
-    omega arith
-
-pub fewer : (n k j : ℕ) → j < n / k → j < n
-fewer n k j h = omega (arith, div-le-self n k)
-
 -- modulo the width w, what is left of n bytes stays the same
+pub left-all : (n w : ℕ) → (n - 0) % w ≡ n % w
+left-all n w = rw sub-zero
+
+pub left-down : (n i k w : ℕ) → (n - i) % w ≡ n % w → k ≡ w → k ≤ n - i → (n - (i + k)) % w ≡ n % w
+left-down n i k w e f h =
+    let g : w ≤ n - i = omega arith in
+    let j : n - (i + k) ≡ n - i - w = omega arith in
+    rw j (sym (mod-eq-sub-mod g) ∙ e)
+
 pub left-up : (n i k w : ℕ) → i % w ≡ n % w → k ≡ w → k ≤ i → (i - k) % w ≡ n % w
 left-up n i k w e f h = let g : w ≤ i = omega arith in rw f (sym (mod-eq-sub-mod g) ∙ e)
 
 -- a loop's end, in the words of its promise
-pub down-is : (s t : List ℕ) (from to n k j : ℕ) → t ≡ down s from to (k * j) → j ≤ n / k → n / k ≤ j → t ≡ put s to (take (n - n % k) (drop from s))
+pub down-is : (s t : List ℕ) (from to n i k w : ℕ) → t ≡ down s from to i → i ≤ n → (n - i) % w ≡ n % w → k ≡ w → n - i < k → t ≡ put s to (take (n - n % w) (drop from s))
 unfolding down
-down-is s t from to n k j e h l =
-    let i : j ≡ n / k = omega arith in
-    let b : k * (n / k) ≤ n = mul-div-le n k in
-    let r : n % k ≡ n - k * (n / k) = mod-def n k in
-    let c : n - n % k ≡ k * (n / k) = rw r (omega arith) in
-    e ∙ rw (i, c)
+down-is s t from to n i k w e h m f l =
+    let g : n - i < w = omega arith in
+    let r : n % w ≡ n - i = sym m ∙ mod-eq-of-lt g in
+    let j : n - n % w ≡ i = rw r (omega arith) in
+    e ∙ rw j
 
 pub up-is : (s t : List ℕ) (from to n i k w : ℕ) → t ≡ up s from to n i → i % w ≡ n % w → k ≡ w → i < k → t ≡ put s (to + n % w) (take (n - n % w) (drop (from + n % w) s))
 unfolding up
@@ -199,6 +186,6 @@ module _ (size from to n : ℕ) (b : Bool) (e : b ≡ within size from n) (f : b
       inl (omega arith))
       (λ o. let j : r + from ≡ to = sym (mod-eq-of-lt o) ∙ w in inr (omega arith))
 
-pub ruleset down-laws = (needs, down-start, down-turn, room, down-is)
+pub ruleset down-laws = (needs, down-none, down-step, left-all, left-down, down-is)
 
 pub ruleset up-laws = (needs, up-none, up-step, left-up, up-is)

@@ -23,12 +23,11 @@ fn steps_down(store: &mut [u8], from: usize, to: usize, n: usize, block: &mut [u
     requires { ⌜ (from + n ≤ length (now store)) × (to + n ≤ length (now store)) × ((to ≤ from) ⊎ (from + n ≤ to)) × (0 < length (now block)) ⌝ }
     ensures { λ _. ⌜ now (store .exit) ≡ put (now (store .entry)) to (take (n - n % length (now (block .entry))) (drop from (now (store .entry)))) ⌝ }
 {
-    let k = block.len();
-    let m = n / k;
-    let mut j = 0;
-    while j < m {
-        step(store, from + k * j, to + k * j, block);
-        j += 1;
+    let mut i = 0;
+    while block.len() <= n - i {
+        let k = block.len();
+        step(store, from + i, to + i, block);
+        i += k;
     }
 }
 

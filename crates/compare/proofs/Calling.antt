@@ -2,7 +2,7 @@
 use mathlib.Core.Path.{_≡_, refl, sym, _∙_}
 use mathlib.Core.Bool.{Bool, true, false, cond}
 use mathlib.Core.List.{List}
-use Prim.Native.Nat.{ℕ, _+_, _<_}
+use Prim.Native.Nat.{ℕ, _+_, _<_, min}
 use native.Mathlib.Omega.{arith}
 use lib.Dec.{leb, ltb}
 use lib.IntN.{ℤ, pos}
@@ -11,7 +11,8 @@ use lib.Signed.{ltZ}
 use borrow.Author.Needs.{needs}
 use borrow.Author.Tests.{leb-true}
 use Rattle.strlib.proofs.Refusing.{first-is, passed, outcome-no, outcome-yes}
-use Rattle.strlib.specs.Pointer.{storeFits, goodIn, textOf, readable}
+use Rattle.strlib.proofs.Pointing.{readable-is}
+use Rattle.strlib.specs.Pointer.{storeFits, goodIn, textOf, characters, readable}
 use Rattle.strlib.specs.Refusal.{refused, gives, also}
 use Rattle.strlib.specs.declared.StrPtr.{StrPtr}
 use Rattle.compare.specs.Order.{orderZ, orderN, signOf}
@@ -66,7 +67,9 @@ three false false = omega arith
 
 order-three : (x y : List ℕ) (t : ℤ) (i : ℕ) → orderAt x y t i < 3
 unfolding orderAt orderZ
-order-three x y t i = three (ltZ (pos (getD x i 32)) (translated y t i)) (ltZ (translated y t i) (pos (getD x i 32)))
+order-three x y t i =
+    let n : ℕ = min (length x) (length y) in
+    three (ltZ (pos (getD x i 32)) (translated y t n i)) (ltZ (translated y t n i) (pos (getD x i 32)))
 
 pub decision-order : (x y : List ℕ) (style : ℕ) (t : ℤ) (d : Decision) → d ≡ decision x y style t → d .order < 3
 unfolding decision decided orderN
@@ -98,6 +101,12 @@ module _ (s : List ℕ) (a b : StrPtr) (code style : ℕ) (t t′ : ℤ) (k : �
   pub compare-translates : k ≡ 0 → translates t ≡ true
   compare-translates z = compare-passed s a b code style t (sym e ∙ z) .translating
 
+  pub compare-characters-1 : (x : List ℕ) → k ≡ 0 → x ≡ textOf s a → characters x ≡ true
+  compare-characters-1 x z ex = readable-is s a x (characters x) refl ex ∙ compare-passed s a b code style t (sym e ∙ z) .read-a
+
+  pub compare-characters-2 : (y : List ℕ) → k ≡ 0 → y ≡ textOf s b → characters y ≡ true
+  compare-characters-2 y z ey = readable-is s b y (characters y) refl ey ∙ compare-passed s a b code style t (sym e ∙ z) .read-b
+
   pub compare-code : k ≡ 0 → code < 6
   compare-code z = omega (arith, leb-true code 5 (compare-passed s a b code style t (sym e ∙ z) .coded))
 
@@ -110,4 +119,4 @@ module _ (s : List ℕ) (a b : StrPtr) (code style : ℕ) (t t′ : ℤ) (k : �
       outcome-yes k (compareRefusal s a b code style t′) same (record { yes = mark; sign = sg; split = d .split })
       (comparison (textOf s a) (textOf s b) code style t′) z (rw (eh, er, es, ed, et, ex, ey))
 
-pub ruleset compare-laws = (needs, translation-checked, compare-checked, decision-order, compare-refused, compare-translates, compare-code, compare-answer)
+pub ruleset compare-laws = (needs, translation-checked, compare-checked, decision-order, compare-refused, compare-translates, compare-characters-1, compare-characters-2, compare-code, compare-answer)

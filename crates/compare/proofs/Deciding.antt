@@ -1,126 +1,153 @@
--- Laws of what decides a comparison: the loop leaves off at the first unequal pair, since what is left to look at
--- decides as the whole does. Assumes nothing.
+-- Laws of what decides a comparison: the first unequal pair that both texts have, or the longer one's tail, or the
+-- lengths. Assumes nothing.
 use mathlib.Core.Path.{_≡_, refl, sym, _∙_}
 use mathlib.Core.Bool.{Bool, true, false, cond}
-use mathlib.Core.List.{List, [], _∷_}
-use Prim.Native.Nat.{ℕ, zero, suc, _+_, _-_, _≤_, _<_, _*_, _^_, min, max}
-use native.Mathlib.Nat.{not-suc-le-zero, le-of-suc-le-suc, zero-add}
-use native.Mathlib.Numerals.{add-one}
+use mathlib.Core.List.{List}
+use Prim.Native.Nat.{ℕ, _+_, _-_, _≤_, _<_, min, max}
+use native.Mathlib.Nat.{zero-add}
 use native.Mathlib.Omega.{arith}
 use lib.Dec.{eqb, ltb}
 use lib.IntN.{ℤ, pos, _+ℤ_}
-use lib.ListN.{length, getD, List·getD-eq-default}
-use mir.Syntax.{w64}
-use mir.Val.{Fits}
-use borrow.Author.Count.{below-more}
+use lib.ListN.{length, getD}
 use borrow.Author.Needs.{needs}
-use borrow.Author.Tests.{ltb-true, ltb-false, eqb-true, eqb-false, eq-eqb, ne-eqb, lt-ltb, le-ltb}
+use borrow.Author.Tests.{ltb-true, eq-eqb, ne-eqb, lt-ltb, le-ltb}
+use Rattle.strlib.proofs.Pointing.{either}
 use Rattle.strlib.proofs.Refusing.{bool-case}
+use Rattle.strlib.proofs.Texts.{character-at}
+use Rattle.strlib.specs.Pointer.{characters}
 use Rattle.compare.specs.Order.{orderZ, orderN}
-use Rattle.compare.specs.Compare.{pairs, lengthDecides, translated, orderAt, unequalFrom, FirstUnequal, SplitsFirst, decided, decision}
-
-getD-any : (l : List ℕ) (i d e : ℕ) → i < length l → getD l i d ≡ getD l i e
-getD-any [] i d e h = absurd (not-suc-le-zero h)
-getD-any (x ∷ l) zero d e h = refl
-getD-any (x ∷ l) (suc i) d e h = getD-any l i d e (le-of-suc-le-suc h)
-
-pub padded-in : (l : List ℕ) (i : ℕ) → i < length l → getD l i 0 ≡ getD l i 32
-padded-in l i h = getD-any l i 0 32 h
-
-pub padded-past : (l : List ℕ) (i d : ℕ) → length l ≤ i → d ≡ getD l i d
-padded-past l i d h = sym (List·getD-eq-default l d h)
-
--- ---- how many pairs
-
-pick-is : (m n a b r : ℕ) → (m < n → a ≡ r) → (n ≤ m → b ≡ r) → cond (ltb m n) a b ≡ r
-pick-is m n a b r f g = bool-case (ltb m n) (λ e. rw e (f (ltb-true m n e))) (λ e. rw e (g (ltb-false m n e)))
+use Rattle.compare.specs.Compare.{pairs, lengthDecides, orderAt, unequalFrom, decided, decision}
+use Rattle.compare.specs.Inner.{Paired, Ended, tailDecision}
+use Rattle.compare.specs.declared.Decision.{Decision}
+use Rattle.compare.proofs.Extending.{extent}
+use Rattle.compare.proofs.Ordering.{order-plain}
+use Rattle.compare.proofs.Pairing.{FirstFrom, first-from, unequal-is, inside-is, past-any, padded-in, padded-past, zero-translates, tail-first, tail-second}
 
 pub order-lengths : (m n q r : ℕ) → q ≡ cond (ltb n m) 2 1 → r ≡ cond (ltb m n) 0 q → r ≡ orderN m n
 unfolding orderN
 order-lengths m n q r e f = f ∙ rw e
 
-module _ (style m n r : ℕ) where
-  pub pairs-padded : style ≡ 0 → r ≡ cond (ltb m n) n m → r ≡ pairs style m n
-  unfolding pairs
-  pairs-padded e h = simp (eq-eqb style 0 e) (h ∙ pick-is m n n m (max m n) (λ l. omega arith) (λ l. omega arith))
+pub shortest : (xs ys : List ℕ) (n : ℕ) → n ≡ min (length xs) (length ys) → characters xs ≡ true → characters ys ≡ true → Ended xs ys n
+shortest xs ys n e c d = record { shorter = e; characters-1 = c; characters-2 = d }
 
-  pub pairs-shorter : (style ≡ 0 → ⊥) → r ≡ cond (ltb m n) m n → r ≡ pairs style m n
-  unfolding pairs
-  pairs-shorter e h = simp (ne-eqb style 0 e) (h ∙ pick-is m n m n (min m n) (λ l. omega arith) (λ l. omega arith))
+pub both-have : (xs ys : List ℕ) (n : ℕ) → n ≡ min (length xs) (length ys) → characters xs ≡ true → characters ys ≡ true → Paired xs ys n
+both-have xs ys n e c d =
+    record {
+      within-1 = omega arith;
+      within-2 = omega arith;
+      character-1 = λ i h. character-at xs i c (omega arith);
+      character-2 = λ i h. character-at ys i d (omega arith);
+    }
 
-pairs-le : (style m n k : ℕ) → k ≡ pairs style m n → k ≤ m + n
-unfolding pairs
-pairs-le style m n k e = rw e (go (eqb style 0))
-  where
-    go : (b : Bool) → cond b (max m n) (min m n) ≤ m + n
-    go true = omega arith
-    go false = omega arith
+-- ---- the first pair by itself; t is what the machine reads back from the bits of t′, here and below
 
--- a position behind the pairs is a number that the machine has
-pub pairs-fits : (style m n k : ℕ) → k ≡ pairs style m n → m * 1 < 2 ^ 63 → n * 1 < 2 ^ 63 → Fits w64 (k + 1)
-pairs-fits style m n k e a b = omega (arith, pairs-le style m n k e)
+module _ (xs ys : List ℕ) (n : ℕ) (t t′ : ℤ) (et : t ≡ t′) where
+  pub first-pair : (o : ℕ) → Paired xs ys n → (n ≡ 0 → ⊥) → o ≡ orderZ (pos (getD xs 0 0)) (pos (getD ys 0 0) +ℤ t) → (o ≡ 1 → ⊥) → 0 ≡ unequalFrom xs ys t′ 0 n
+  first-pair o p h eo e =
+      let k : 0 < n = omega arith in
+      rw (← et)
+      (unequal-is xs ys t 0 n 0 (record { from = omega arith; within = omega arith; equal = λ j l m. omega arith; unequal = λ l z. e (eo ∙ inside-is xs ys t n p 0 k ∙ z) }))
 
--- ---- the first unequal pair
+  pub read-back : (r : ℕ) → r ≡ unequalFrom xs ys t 0 n → r ≡ unequalFrom xs ys t′ 0 n
+  read-back r e = e ∙ rw et
 
--- t is what the machine reads back from the bits of t′, here and below
-pub order-is : (x y : List ℕ) (t t′ : ℤ) (i a b r : ℕ) → r ≡ orderZ (pos a) (pos b +ℤ t) → a ≡ getD x i 32 → b ≡ getD y i 32 → t ≡ t′ → r ≡ orderAt x y t′ i
-unfolding orderAt translated
-order-is x y t t′ i a b r e ea eb et = rw (← ea, ← eb, ← et) e
-
-module _ (x y : List ℕ) (t : ℤ) (n i : ℕ) (e : unequalFrom x y t 0 n ≡ unequalFrom x y t i (n - i)) where
-  pub unequal-step : (o : ℕ) → i < n → o ≡ orderAt x y t i → o ≡ 1 → unequalFrom x y t 0 n ≡ unequalFrom x y t (i + 1) (n - (i + 1))
-  unfolding unequalFrom
-  unequal-step o h p q =
-      let k : n - i ≡ suc (n - (i + 1)) = omega arith in
-      let j : i + 1 ≡ suc i = omega arith in
-      e ∙ rw (k, j) (simp (eq-eqb _ _ (sym p ∙ q)))
-
-  pub unequal-stop : (o : ℕ) (t′ : ℤ) → i < n → o ≡ orderAt x y t i → (o ≡ 1 → ⊥) → t ≡ t′ → i ≡ unequalFrom x y t′ 0 n
-  unfolding unequalFrom
-  unequal-stop o t′ h p q r =
-      let k : n - i ≡ suc (n - (i + 1)) = omega arith in
-      rw (← r) (sym (e ∙ rw k (simp (ne-eqb _ _ (λ (z : orderAt x y t i ≡ 1). q (p ∙ z))))))
-
-  pub unequal-end : (t′ : ℤ) → n ≤ i → t ≡ t′ → i ≡ unequalFrom x y t′ 0 n
-  unfolding unequalFrom
-  unequal-end t′ h r = let k : n - i ≡ 0 = omega arith in rw (← r) (sym (e ∙ rw k))
-
--- it is the first unequal pair indeed
-from-is : (x y : List ℕ) (t : ℤ) (i k : ℕ) → ((j : ℕ) → j < i → orderAt x y t j ≡ 1) → FirstUnequal x y t (i + k) (unequalFrom x y t i k)
+pub no-pair : (xs ys : List ℕ) (n : ℕ) (t : ℤ) → n ≡ 0 → 0 ≡ unequalFrom xs ys t 0 n
 unfolding unequalFrom
-from-is x y t i zero h = record { within = omega arith; equal = h; unequal = λ l e. omega arith }
-from-is x y t i (suc k) h = go (eqb (orderAt x y t i) 1) refl (λ e. from-is x y t (suc i) k (rw add-one at (below-more (λ (j : ℕ). orderAt x y t j ≡ 1) i h e)))
-  where
-    go : (b : Bool) → eqb (orderAt x y t i) 1 ≡ b → (orderAt x y t i ≡ 1 → FirstUnequal x y t (suc i + k) (unequalFrom x y t (suc i) k))
-        → FirstUnequal x y t (i + suc k) (cond b (unequalFrom x y t (suc i) k) i)
-    go true e f = let j : i + suc k ≡ suc i + k = omega arith in rw j (f (eqb-true (orderAt x y t i) 1 e))
-    go false e f = record { within = omega arith; equal = h; unequal = λ l. eqb-false (orderAt x y t i) 1 e }
+no-pair xs ys n t h = rw h
 
-pub first-unequal-is : SplitsFirst
-first-unequal-is x y t n = rw zero-add at (from-is x y t 0 n (λ j l. absurd (omega arith)))
+-- ---- the tail
+
+module _ (xs ys : List ℕ) (n d : ℕ) (p : Ended xs ys n) (e : d ≡ unequalFrom xs ys (pos 0) n (max (length xs) (length ys) - n)) where
+  tail-by : decided xs ys 0 (pos 0) (max (length xs) (length ys)) d ≡ tailDecision xs ys
+  unfolding tailDecision
+  tail-by = rw (e, p .shorter)
+
+  tail-from : n ≤ d
+  tail-from = rw e (first-from xs ys (pos 0) n (max (length xs) (length ys) - n) .from)
+
+  pub tail-pair : (m o a b : ℕ) → m ≡ max (length xs) (length ys) → d < m → a ≡ getD xs d 32 → b ≡ getD ys d 32 → o ≡ orderZ (pos a) (pos b +ℤ pos 0)
+      → record { order = o; split = d + 1 } ≡ tailDecision xs ys
+  unfolding decided
+  tail-pair m o a b em h ea eb eo =
+      let k : d < max (length xs) (length ys) = rw em at h in
+      rw (eo, ea, eb, ← order-plain (getD xs d 32) (getD ys d 32), ← extent .past xs ys (pos 0) d (omega (arith, p .shorter, tail-from))) (rw (lt-ltb d (max (length xs) (length ys)) k) at tail-by)
+
+  pub tail-nothing : (m : ℕ) → m ≡ max (length xs) (length ys) → m ≤ d → record { order = 1; split = 0 } ≡ tailDecision xs ys
+  unfolding decided lengthDecides
+  tail-nothing m em h = let k : max (length xs) (length ys) ≤ d = rw em at h in rw (le-ltb d (max (length xs) (length ys)) k) at tail-by
 
 -- ---- the decision
 
-module _
-    (x y : List ℕ) (style n d : ℕ) (t t′ : ℤ)
-    (en : n ≡ pairs style (length x) (length y)) (et : t ≡ t′) (ed : d ≡ unequalFrom x y t 0 n)
-  where
-    by : decided x y style t n d ≡ decision x y style t′
-    unfolding decision
-    by = rw (← et, ← en, ← ed)
+pairs-shorter : (style m n : ℕ) → min m n ≤ pairs style m n
+unfolding pairs
+pairs-shorter style m n = bool-case (eqb style 0) (λ e. rw e (omega arith)) (λ e. rw e (omega arith))
 
-    pub by-pair : (o : ℕ) → d < n → o ≡ orderAt x y t d → record { order = o; split = d + 1 } ≡ decision x y style t′
-    unfolding decided
-    by-pair o h eo = rw eo (rw (lt-ltb d n h) at by)
+module _ (xs ys : List ℕ) (style n d : ℕ) (t t′ : ℤ) (p : Ended xs ys n) (et : t ≡ t′) (ed : d ≡ unequalFrom xs ys t 0 n) where
+  by : (m e : ℕ) → m ≡ pairs style (length xs) (length ys) → e ≡ unequalFrom xs ys t 0 m → decided xs ys style t m e ≡ decision xs ys style t′
+  unfolding decision
+  by m e em ee = rw (← et, ← em, ← ee)
 
-    pub by-length : (o : ℕ) (b : Bool) → n ≤ d → b ≡ lengthDecides style (length x) (length y) → b ≡ true → o ≡ orderN (length x) (length y)
-        → record { order = o; split = n + 1 } ≡ decision x y style t′
-    unfolding decided
-    by-length o b h eb hb eo = rw eo (rw (le-ltb d n h, ← eb, hb) at by)
+  whole : FirstFrom xs ys t 0 n d
+  whole = rw (← ed, zero-add) at (first-from xs ys t 0 n)
 
-    pub by-nothing : (b : Bool) → n ≤ d → b ≡ lengthDecides style (length x) (length y) → b ≡ false → record { order = 1; split = 0 } ≡ decision x y style t′
+  pub by-pair : (o : ℕ) → d < n → o ≡ orderZ (pos (getD xs d 0)) (pos (getD ys d 0) +ℤ t) → record { order = o; split = d + 1 } ≡ decision xs ys style t′
+  unfolding decided
+  by-pair o h eo =
+      let m : ℕ = pairs style (length xs) (length ys) in
+      let k : d < m = omega (arith, pairs-shorter style (length xs) (length ys), p .shorter) in
+      let e : d ≡ unequalFrom xs ys t 0 m =
+      unequal-is xs ys t 0 m d (record { from = omega arith; within = omega arith; equal = whole .equal; unequal = λ l. whole .unequal h }) in
+      rw (eo, inside-is xs ys t n (both-have xs ys n (p .shorter) (p .characters-1) (p .characters-2)) d h) (rw (lt-ltb d m k) at (by m d refl e))
+
+  -- where all pairs that both have are equal
+  module _ (h : n ≤ d) where
+    all-equal : (j : ℕ) → j < n → orderAt xs ys t j ≡ 1
+    all-equal j l = whole .equal j (omega arith) (omega arith)
+
+    longer : ℕ
+    longer = max (length xs) (length ys)
+
+    tail : ℕ
+    tail = unequalFrom xs ys (pos 0) n (longer - n)
+
+    in-tail : FirstFrom xs ys (pos 0) n longer tail
+    unfolding tail longer
+    in-tail = let k : n + (max (length xs) (length ys) - n) ≡ max (length xs) (length ys) = omega (arith, p .shorter) in rw k at (first-from xs ys (pos 0) n (max (length xs) (length ys) - n))
+
+    in-all : tail ≡ unequalFrom xs ys t 0 longer
+    in-all =
+        unequal-is xs ys t 0 longer tail
+        (record {
+          from = omega arith;
+          within = omega (arith, in-tail .within);
+          equal = λ j k l. either n j (λ m. past-any xs ys n p t (pos 0) j m ∙ in-tail .equal j m l) (λ m. all-equal j m);
+          unequal = λ l o. in-tail .unequal (omega arith) (past-any xs ys n p (pos 0) t tail (in-tail .from) ∙ o);
+        })
+
+    tail-decides : decided xs ys style (pos 0) longer tail ≡ decided xs ys style t longer tail
     unfolding decided
-    by-nothing b h eb hb = rw (le-ltb d n h, ← eb, hb) at by
+    tail-decides = bool-case (ltb tail longer) (λ e. rw (e, past-any xs ys n p (pos 0) t tail (in-tail .from))) (λ e. rw e)
+
+    padded : style ≡ 0 → longer ≡ pairs style (length xs) (length ys)
+    unfolding pairs longer
+    padded s = rw (eq-eqb style 0 s)
+
+    pub by-tail : (r : Decision) → style ≡ 0 → r ≡ tailDecision xs ys → r ≡ decision xs ys style t′
+    unfolding tail longer
+    by-tail r s er = rw s (er ∙ sym (tail-by xs ys n tail p refl) ∙ (rw s at (tail-decides ∙ by longer tail (padded s) in-all)))
+
+    unpadded : (style ≡ 0 → ⊥) → n ≡ pairs style (length xs) (length ys)
+    unfolding pairs
+    unpadded s = rw (ne-eqb style 0 s) (p .shorter)
+
+    pub by-length : (o : ℕ) (b : Bool) → (style ≡ 0 → ⊥) → b ≡ lengthDecides style (length xs) (length ys) → b ≡ true → o ≡ orderN (length xs) (length ys)
+        → record { order = o; split = n + 1 } ≡ decision xs ys style t′
+    unfolding decided
+    by-length o b s eb hb eo = rw eo (rw (le-ltb d n h, ← eb, hb) at (by n d (unpadded s) ed))
+
+    pub by-nothing : (b : Bool) → (style ≡ 0 → ⊥) → b ≡ lengthDecides style (length xs) (length ys) → b ≡ false → record { order = 1; split = 0 } ≡ decision xs ys style t′
+    unfolding decided
+    by-nothing b s eb hb = rw (le-ltb d n h, ← eb, hb) at (by n d (unpadded s) ed)
 
 pub ruleset deciding-laws =
-    (needs, padded-in, padded-past, order-lengths, pairs-padded, pairs-shorter, pairs-fits, order-is, unequal-step, unequal-stop, unequal-end, by-pair, by-length, by-nothing)
+    (needs, padded-in, padded-past, order-lengths, shortest, both-have, first-pair, read-back, no-pair, zero-translates, tail-first, tail-second, tail-pair, tail-nothing, by-pair, by-tail, by-length, by-nothing)

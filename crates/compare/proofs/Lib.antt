@@ -1,4 +1,7 @@
 pub mod Table
 pub mod Whole
+pub mod Ordering
+pub mod Extending
+pub mod Pairing
 pub mod Deciding
 pub mod Calling

@@ -1,4 +1,4 @@
--- Comparing: 01, "Comparing". Assumes nothing.
+-- Comparing: 01, "Comparing", and 02, W4. Assumes nothing.
 use Prim.Native.Nat.{ℕ, zero, suc, _+_, _≤_, _<_, min, max}
 use mathlib.Core.Path.{_≡_}
 use mathlib.Core.Bool.{Bool, cond, not, _&&_}
@@ -39,13 +39,14 @@ lengthDecides style m n = eqb style 1 && not (eqb m n)
 unfoldable pub translates : ℤ → Bool
 translates t = leZ (negsuc 126) t && leZ t (pos 127)
 
--- string 2 as it is compared, at index i: the translation is added to every character, and to its pad blanks (32)
-unfoldable pub translated : List ℕ → ℤ → ℕ → ℤ
-translated ys t i = pos (getD ys i 32) +ℤ t
+-- string 2 as it is compared, at index i, where the shorter string has n characters: the translation is added to its
+-- first n characters, never to its pad blanks (32) and never to its characters past string 1's end (02, W4)
+unfoldable pub translated : List ℕ → ℤ → ℕ → ℕ → ℤ
+translated ys t n i = cond (ltb i n) (pos (getD ys i 32) +ℤ t) (pos (getD ys i 32))
 
 -- the order of the pair at index i
 unfoldable pub orderAt : List ℕ → List ℕ → ℤ → ℕ → ℕ
-orderAt xs ys t i = orderZ (pos (getD xs i 32)) (translated ys t i)
+orderAt xs ys t i = orderZ (pos (getD xs i 32)) (translated ys t (min (length xs) (length ys)) i)
 
 -- of the k pairs from index i on, the index of the first unequal one, or i + k where all are equal
 unfoldable pub unequalFrom : List ℕ → List ℕ → ℤ → ℕ → ℕ → ℕ

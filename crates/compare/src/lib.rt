@@ -1,14 +1,18 @@
 // Comparing two strings of one store.
 mod numbers;
+mod pairs;
 mod refusal;
 
 use strlib::StrPtr;
 ghost use mathlib.Core.Path.{_≡_};
 ghost use mathlib.Core.Bool.{true};
-ghost use Prim.Native.Nat.{_<_};
+ghost use Prim.Native.Nat.{_-_, _<_, max};
+ghost use lib.ListN.{length};
 ghost use lib.IntN.{pos, _+ℤ_};
+ghost use Rattle.strlib.specs.Pointer.{characters};
 ghost use Rattle.compare.specs.Order.{orderZ};
-ghost use Rattle.compare.specs.Compare.{holds, translates, orderAt, unequalFrom, decision, compareRule, comparedOf};
+ghost use Rattle.compare.specs.Compare.{holds, translates, unequalFrom, decision, compareRule, comparedOf};
+ghost use Rattle.compare.specs.Inner.{Paired, Ended, tailDecision};
 
 // The answer: whether the code's relation holds, the sign of length 1 − length 2, and the split.
 pub struct Comparison {
@@ -55,48 +59,68 @@ fn order(x: u8, y: u8, t: i64) -> usize
     numbers::pick(a < b, 0, numbers::pick(b < a, 2, 1))
 }
 
-// The order of the pair at index i.
-fn order_at(x: &[u8], y: &[u8], t: i64, i: usize) -> usize
-    requires { ⌜ translates t ≡ true ⌝ }
-    ensures { λ r. ⌜ r ≡ orderAt (now (x .entry)) (now (y .entry)) t i ⌝ }
-{
-    order(numbers::padded(x, i), numbers::padded(y, i), t)
-}
-
-// Of the first n pairs the index of the first unequal one, or n.
+// Of the first n pairs, which both texts have, the index of the first unequal one, or n. Most texts differ in their
+// first pair, and then no block is looked at.
 fn first_unequal(x: &[u8], y: &[u8], t: i64, n: usize) -> usize
-    requires { ⌜ translates t ≡ true ⌝ }
+    requires { ⌜ (translates t ≡ true) × Paired (now x) (now y) n ⌝ }
     ensures { λ r. ⌜ r ≡ unequalFrom (now (x .entry)) (now (y .entry)) t 0 n ⌝ }
 {
-    let mut i = 0;
-    while i < n {
-        if order_at(x, y, t, i) != 1 {
-            return i;
-        }
-        i += 1;
+    if n == 0 {
+        return 0;
     }
-    i
+    if order(x[0], y[0], t) != 1 {
+        return 0;
+    }
+    pairs::first_unequal(x, y, t, n)
 }
 
-// Pair by pair up to the first unequal one; else by the lengths, in exact style.
-fn decide(x: &[u8], y: &[u8], style: usize, t: i64) -> Decision
-    requires { ⌜ translates t ≡ true ⌝ }
-    ensures { λ r. ⌜ r ≡ decision (now (x .entry)) (now (y .entry)) style t ⌝ }
+// From the shorter text's end on, the longer one's first character that is no blank, or its end.
+fn tail_end(x: &[u8], y: &[u8], n: usize) -> usize
+    requires { ⌜ Ended (now x) (now y) n ⌝ }
+    ensures { λ r. ⌜ r ≡ unequalFrom (now (x .entry)) (now (y .entry)) (pos 0) n (max (length (now (x .entry))) (length (now (y .entry))) - n) ⌝ }
 {
-    let m = x.len();
-    let n = y.len();
-    let count = numbers::pairs_of(style, m, n);
-    let d = first_unequal(x, y, t, count);
-    if d < count {
+    if n < x.len() {
+        return pairs::blanks_end(x, n);
+    }
+    pairs::blanks_end(y, n)
+}
+
+// Past the shorter text's end, in padded style: the longer one's tail beside blanks, and nothing translated.
+fn decide_tail(x: &[u8], y: &[u8], n: usize) -> Decision
+    requires { ⌜ Ended (now x) (now y) n ⌝ }
+    ensures { λ r. ⌜ r ≡ tailDecision (now (x .entry)) (now (y .entry)) ⌝ }
+{
+    let d = tail_end(x, y, n);
+    if d < numbers::longer(x.len(), y.len()) {
         return Decision {
-            order: order_at(x, y, t, d),
+            order: order(numbers::padded(x, d), numbers::padded(y, d), 0),
             split: d + 1,
         };
     }
-    if numbers::length_decides(style, m, n) {
+    Decision { order: 1, split: 0 }
+}
+
+// The pairs that both texts have, translated, up to the first unequal one; else the tail, in padded style, or the
+// lengths, in exact style.
+fn decide(x: &[u8], y: &[u8], style: usize, t: i64) -> Decision
+    requires { ⌜ (translates t ≡ true) × (characters (now x) ≡ true) × (characters (now y) ≡ true) ⌝ }
+    ensures { λ r. ⌜ r ≡ decision (now (x .entry)) (now (y .entry)) style t ⌝ }
+{
+    let n = numbers::shorter(x.len(), y.len());
+    let d = first_unequal(x, y, t, n);
+    if d < n {
         return Decision {
-            order: numbers::order_of(m, n),
-            split: count + 1,
+            order: order(x[d], y[d], t),
+            split: d + 1,
+        };
+    }
+    if style == 0 {
+        return decide_tail(x, y, n);
+    }
+    if numbers::length_decides(style, x.len(), y.len()) {
+        return Decision {
+            order: numbers::order_of(x.len(), y.len()),
+            split: n + 1,
         };
     }
     Decision { order: 1, split: 0 }

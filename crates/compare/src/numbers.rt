@@ -2,9 +2,10 @@
 use strlib::StrPtr;
 ghost use mathlib.Core.Path.{_≡_};
 ghost use mathlib.Core.Bool.{cond};
+ghost use Prim.Native.Nat.{min, max};
 ghost use lib.ListN.{getD};
 ghost use Rattle.compare.specs.Order.{orderN, signOf};
-ghost use Rattle.compare.specs.Compare.{translates, pairs, lengthDecides};
+ghost use Rattle.compare.specs.Compare.{translates, lengthDecides};
 
 pub fn pick(test: bool, a: usize, b: usize) -> usize
     ensures { λ r. ⌜ r ≡ cond test a b ⌝ }
@@ -43,15 +44,16 @@ pub fn padded(x: &[u8], i: usize) -> u8
     if i < x.len() { x[i] } else { b' ' }
 }
 
-// How many pairs a style compares.
-pub fn pairs_of(style: usize, m: usize, n: usize) -> usize
-    ensures { λ r. ⌜ r ≡ pairs style m n ⌝ }
+pub fn shorter(m: usize, n: usize) -> usize
+    ensures { λ r. ⌜ r ≡ min m n ⌝ }
 {
-    if style == 0 {
-        pick(m < n, n, m)
-    } else {
-        pick(m < n, m, n)
-    }
+    if m < n { m } else { n }
+}
+
+pub fn longer(m: usize, n: usize) -> usize
+    ensures { λ r. ⌜ r ≡ max m n ⌝ }
+{
+    if m < n { n } else { m }
 }
 
 // Exact style's length rule.

@@ -7,13 +7,17 @@ pub decide-spec : {M : Type 1} → statement M
 decide-spec =
     tie.close
     (tie.spec
-    (λ c κs. tt)
+    (λ c κs. search needs)
+    (λ c κs. search deciding-laws)
+    (λ c. search needs)
+    (λ c. search needs)
+    (λ c κs. search needs)
+    (λ c. search needs)
+    (λ c. search deciding-laws)
+    (λ c κs. search deciding-laws)
+    (λ c. search deciding-laws)
     (λ c κs. search needs)
     (λ c κs. search needs)
-    (λ c. search deciding-laws)
-    (λ c. search deciding-laws)
-    (λ c κs. tt)
-    (λ c κs. tt)
-    (λ c. search deciding-laws)
+    (λ c. search needs)
     (λ c. search deciding-laws)
     (λ c. search deciding-laws))

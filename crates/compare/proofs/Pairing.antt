@@ -1,0 +1,308 @@
+-- Laws of the first unequal pair: what it is, block by block, and behind blanks. Assumes nothing.
+use mathlib.Core.Path.{_≡_, refl, sym, _∙_}
+use mathlib.Core.Bool.{Bool, true, false, cond, _&&_, and-true, and-assoc}
+use mathlib.Core.List.{List, [], _∷_}
+use Prim.Native.Nat.{ℕ, zero, suc, _+_, _-_, _*_, _^_, _≤_, _<_, min, max}
+use native.Mathlib.Nat.{zero-add, sub-zero, not-suc-le-zero, le-of-suc-le-suc}
+use native.Mathlib.Omega.{arith}
+use lib.Dec.{eqb, ltb}
+use lib.IntN.{ℤ, pos, _+ℤ_}
+use lib.ListN.{length, getD, take, drop, length-take, length-drop, List·getD-eq-default}
+use lib.Seq.{getD-take, getD-drop, take-all}
+use mir.Syntax.{w64}
+use mir.Val.{Fits}
+use borrow.Author.Needs.{needs}
+use borrow.Author.Tests.{eqb-true, eqb-false, eq-eqb, ne-eqb}
+use Rattle.strlib.proofs.Pointing.{either}
+use Rattle.strlib.proofs.Refusing.{bool-case}
+use Rattle.strlib.proofs.Texts.{character-at}
+use Rattle.strlib.specs.Pointer.{characters}
+use Rattle.compare.specs.Order.{orderZ}
+use Rattle.compare.specs.Compare.{translates, orderAt, unequalFrom, FirstUnequal, SplitsFirst}
+use Rattle.compare.specs.Inner.{Paired, Ended}
+use Rattle.compare.proofs.Extending.{extent, unequal-turned}
+use Rattle.compare.proofs.Ordering.{order-plain, equal-plain, plain-equal}
+
+-- ---- what it is
+
+-- of the pairs from i up to n, all before d are equal, and the one at d, where there is one, is not
+pub record FirstFrom (xs ys : List ℕ) (t : ℤ) (i n d : ℕ) : Type 0 where
+  pub from : i ≤ d
+  pub within : d ≤ n
+  pub equal : (j : ℕ) → i ≤ j → j < d → orderAt xs ys t j ≡ 1
+  pub unequal : d < n → orderAt xs ys t d ≡ 1 → ⊥
+
+module _ (xs ys : List ℕ) (t : ℤ) where
+  pub first-from : (i k : ℕ) → FirstFrom xs ys t i (i + k) (unequalFrom xs ys t i k)
+  unfolding unequalFrom
+  first-from i zero = record { from = omega arith; within = omega arith; equal = λ j h l. omega arith; unequal = λ l e. omega arith }
+  first-from i (suc k) = go (eqb (orderAt xs ys t i) 1) refl (first-from (suc i) k)
+    where
+      go : (b : Bool) → eqb (orderAt xs ys t i) 1 ≡ b → FirstFrom xs ys t (suc i) (suc i + k) (unequalFrom xs ys t (suc i) k)
+          → FirstFrom xs ys t i (i + suc k) (cond b (unequalFrom xs ys t (suc i) k) i)
+      go true e f =
+          record {
+            from = omega (arith, f .from);
+            within = omega (arith, f .within);
+            equal = λ j h l. either (suc i) j (λ m. f .equal j m l) (λ m. let same : j ≡ i = omega arith in rw same (eqb-true (orderAt xs ys t i) 1 e));
+            unequal = λ l. f .unequal (omega arith);
+          }
+      go false e f = record { from = omega arith; within = omega arith; equal = λ j h l. omega arith; unequal = λ l. eqb-false (orderAt xs ys t i) 1 e }
+
+  -- there is but one
+  pub unequal-is : (i k d : ℕ) → FirstFrom xs ys t i (i + k) d → d ≡ unequalFrom xs ys t i k
+  unequal-is i k d f = either d e (λ h. either e d (λ l. omega arith) over) under
+    where
+      e : ℕ
+      e = unequalFrom xs ys t i k
+
+      g : FirstFrom xs ys t i (i + k) e
+      g = first-from i k
+
+      over : d < e → d ≡ e
+      over h = absurd (f .unequal (omega (arith, g .within)) (g .equal d (f .from) h))
+
+      under : e < d → d ≡ e
+      under h = absurd (g .unequal (omega (arith, f .within)) (f .equal e (g .from) h))
+
+pub first-unequal-is : SplitsFirst
+first-unequal-is xs ys t n =
+    let f = rw zero-add at (first-from xs ys t 0 n) in record { within = f .within; equal = λ i. f .equal i (omega arith); unequal = f .unequal }
+
+-- ---- the code's pair
+
+getD-any : (l : List ℕ) (i d e : ℕ) → i < length l → getD l i d ≡ getD l i e
+getD-any [] i d e h = absurd (not-suc-le-zero h)
+getD-any (x ∷ l) zero d e h = refl
+getD-any (x ∷ l) (suc i) d e h = getD-any l i d e (le-of-suc-le-suc h)
+
+pub padded-in : (l : List ℕ) (i : ℕ) → i < length l → getD l i 0 ≡ getD l i 32
+padded-in l i h = getD-any l i 0 32 h
+
+pub padded-past : (l : List ℕ) (i d : ℕ) → length l ≤ i → d ≡ getD l i d
+padded-past l i d h = sym (List·getD-eq-default l d h)
+
+pub inside-is : (xs ys : List ℕ) (t : ℤ) (n : ℕ) → Paired xs ys n → (i : ℕ) → i < n → orderZ (pos (getD xs i 0)) (pos (getD ys i 0) +ℤ t) ≡ orderAt xs ys t i
+inside-is xs ys t n p i h =
+    let k : i < length xs = omega (arith, p .within-1) in
+    let l : i < length ys = omega (arith, p .within-2) in
+    rw (padded-in xs i k, padded-in ys i l) (sym (extent .inside xs ys t i k l))
+
+-- ---- a block, without leaving early
+
+module _ (xs ys : List ℕ) (t : ℤ) where
+  -- whether all pairs from i up to n are equal
+  all-step : (i n : ℕ) → i < n → eqb (unequalFrom xs ys t i (n - i)) n ≡ (eqb (orderAt xs ys t i) 1 && eqb (unequalFrom xs ys t (i + 1) (n - (i + 1))) n)
+  unfolding unequalFrom
+  all-step i n h =
+      let k : n - i ≡ suc (n - (i + 1)) = omega arith in
+      let j : i + 1 ≡ suc i = omega arith in
+      rw (k, j) (bool-case (eqb (orderAt xs ys t i) 1) (λ e. rw e) (λ e. rw e (ne-eqb i n (λ z. omega arith))))
+
+  all-end : (i n : ℕ) → i ≡ n → eqb (unequalFrom xs ys t i (n - i)) n ≡ true
+  unfolding unequalFrom
+  all-end i n h = let k : n - i ≡ 0 = omega arith in rw k (eq-eqb i n h)
+
+  pub block-start : (n : ℕ) → eqb (unequalFrom xs ys t 0 n) n ≡ (true && eqb (unequalFrom xs ys t 0 (n - 0)) n)
+  block-start n = rw sub-zero
+
+  module _ (i n : ℕ) (equal : Bool) (e : eqb (unequalFrom xs ys t 0 n) n ≡ (equal && eqb (unequalFrom xs ys t i (n - i)) n)) where
+    pub block-step : Paired xs ys n → i < n → (b r : Bool) → b ≡ eqb (orderZ (pos (getD xs i 0)) (pos (getD ys i 0) +ℤ t)) 1 → r ≡ (equal && b)
+        → eqb (unequalFrom xs ys t 0 n) n ≡ (r && eqb (unequalFrom xs ys t (i + 1) (n - (i + 1))) n)
+    block-step pair h b r p q =
+        e ∙ rw (all-step i n h, q, p, inside-is xs ys t n pair i h) (sym (and-assoc equal (eqb (orderAt xs ys t i) 1) (eqb (unequalFrom xs ys t (i + 1) (n - (i + 1))) n)))
+
+    pub block-end : i ≤ n → n ≤ i → equal ≡ eqb (unequalFrom xs ys t 0 n) n
+    block-end h k = sym (e ∙ rw (all-end i n (omega arith), and-true))
+
+-- ---- block by block
+
+pub within-n : (xs ys : List ℕ) (t : ℤ) (n i : ℕ) → i ≤ unequalFrom xs ys t 0 n → i ≤ n
+within-n xs ys t n i h = omega (arith, first-unequal-is xs ys t n .within)
+
+pub n-within : (xs ys : List ℕ) (t : ℤ) (n k : ℕ) → n < k → unequalFrom xs ys t 0 n < k
+n-within xs ys t n k h = omega (arith, first-unequal-is xs ys t n .within)
+
+-- a block as the code cuts it out
+abbrev cut : List ℕ → ℕ → ℕ → List ℕ
+cut xs i w = take (i + w - i) (drop i xs)
+
+cut-length : (xs : List ℕ) (i w n : ℕ) → i + w ≤ n → n ≤ length xs → length (cut xs i w) ≡ w
+cut-length xs i w n h k = simp (length-take, length-drop) (omega arith)
+
+cut-at : (xs : List ℕ) (i w j d : ℕ) → j < w → getD (cut xs i w) j d ≡ getD xs (i + j) d
+cut-at xs i w j d h = getD-take (i + w - i) (drop i xs) j d (omega arith) ∙ getD-drop i xs j d
+
+module _ (xs ys : List ℕ) (t : ℤ) (n i w : ℕ) (p : Paired xs ys n) (l : i ≤ unequalFrom xs ys t 0 n) (h : w ≤ n - i) where
+  whole : FirstFrom xs ys t 0 n (unequalFrom xs ys t 0 n)
+  whole = rw zero-add at (first-from xs ys t 0 n)
+
+  end : i + w ≤ n
+  end = omega (arith, whole .within)
+
+  x-length : length (cut xs i w) ≡ w
+  x-length = cut-length xs i w n end (p .within-1)
+
+  y-length : length (cut ys i w) ≡ w
+  y-length = cut-length ys i w n end (p .within-2)
+
+  pub cut-paired : Paired (cut xs i w) (cut ys i w) (length (cut xs i w))
+  cut-paired =
+      record {
+        within-1 = omega arith;
+        within-2 = omega (arith, x-length, y-length);
+        character-1 = λ j k. let m : j < w = omega (arith, x-length) in rw (cut-at xs i w j 0 m) (p .character-1 (i + j) (omega (arith, end)));
+        character-2 = λ j k. let m : j < w = omega (arith, x-length) in rw (cut-at ys i w j 0 m) (p .character-2 (i + j) (omega (arith, end)));
+      }
+
+  cut-order : (j : ℕ) → j < w → orderAt (cut xs i w) (cut ys i w) t j ≡ orderAt xs ys t (i + j)
+  cut-order j k =
+      extent .inside (cut xs i w) (cut ys i w) t j (omega (arith, x-length)) (omega (arith, y-length))
+      ∙ rw (cut-at xs i w j 32 k, cut-at ys i w j 32 k) (sym (extent .inside xs ys t (i + j) (omega (arith, p .within-1, end)) (omega (arith, p .within-2, end))))
+
+  -- the first unequal pair of the block alone
+  alone : FirstFrom (cut xs i w) (cut ys i w) t 0 w (unequalFrom (cut xs i w) (cut ys i w) t 0 w)
+  alone = rw zero-add at (first-from (cut xs i w) (cut ys i w) t 0 w)
+
+  module _ (b : Bool) (e : b ≡ eqb (unequalFrom (cut xs i w) (cut ys i w) t 0 (length (cut xs i w))) (length (cut xs i w))) where
+    e′ : b ≡ eqb (unequalFrom (cut xs i w) (cut ys i w) t 0 w) w
+    e′ = rw x-length at e
+
+    pub block-passed : b ≡ true → i + w ≤ unequalFrom xs ys t 0 n
+    block-passed q =
+        let u : ℕ = unequalFrom xs ys t 0 n in
+        let v : unequalFrom (cut xs i w) (cut ys i w) t 0 w ≡ w = eqb-true _ w (sym e′ ∙ q) in
+        either (i + w) u (λ k. k)
+        (λ k.
+        let m : u - i < w = omega arith in
+        let s : i + (u - i) ≡ u = omega arith in
+        let o : orderAt xs ys t (i + (u - i)) ≡ 1 = sym (cut-order (u - i) m) ∙ alone .equal (u - i) (omega arith) (omega arith) in
+        absurd (whole .unequal (omega (arith, end)) (rw s at o)))
+
+    pub block-stopped : b ≡ false → unequalFrom xs ys t 0 n < i + w
+    block-stopped q =
+        let u : ℕ = unequalFrom xs ys t 0 n in
+        let v : ℕ = unequalFrom (cut xs i w) (cut ys i w) t 0 w in
+        let m : v < w = either w v (λ k. absurd (eqb-false v w (sym e′ ∙ q) (omega (arith, alone .within)))) (λ k. k) in
+        either (i + w) u (λ k. absurd (alone .unequal m (cut-order v m ∙ whole .equal (i + v) (omega arith) (omega arith)))) (λ k. k)
+
+-- the last blocks are of one pair; r′ is the translation as a byte, t what it is read back from
+pub all-passed : (xs ys : List ℕ) (t t′ t″ : ℤ) (n r : ℕ) → (r ≤ unequalFrom xs ys t 0 n) × (unequalFrom xs ys t 0 n < r + 1) → t ≡ t′ → t′ ≡ t″ → r ≡ unequalFrom xs ys t″ 0 n
+all-passed xs ys t t′ t″ n r h e f = rw (← f, ← e) (omega arith)
+
+-- ---- a text beside blanks
+
+-- a text's rest as the code cuts it out
+abbrev rest : List ℕ → ℕ → List ℕ
+rest z i = take (length z - i) (drop i z)
+
+rest-is : (z : List ℕ) (i : ℕ) → rest z i ≡ drop i z
+rest-is z i = take-all (length z - i) (drop i z) (simp length-drop (omega arith))
+
+rest-length : (z : List ℕ) (i : ℕ) → length (rest z i) ≡ length z - i
+rest-length z i = rw (rest-is z i) (length-drop i z)
+
+rest-at : (z : List ℕ) (i j d : ℕ) → getD (rest z i) j d ≡ getD z (i + j) d
+rest-at z i j d = rw (rest-is z i) (getD-drop i z j d)
+
+-- beside a text that has ended, the empty one included
+ended : (xs ys : List ℕ) (t : ℤ) (j : ℕ) → length ys ≤ j → orderAt xs ys t j ≡ orderZ (pos (getD xs j 32)) (pos 32)
+ended xs ys t j h = extent .past xs ys t j (omega arith) ∙ rw (sym (padded-past ys j 32 h))
+
+module _ (z : List ℕ) (i : ℕ) where
+  pub blanks-none : length z ≤ i → i ≡ unequalFrom z [] (pos 0) i (length z - i)
+  unfolding unequalFrom
+  blanks-none h = let k : length z - i ≡ 0 = omega arith in rw k
+
+  pub blanks-no : i < length z → (getD z i 0 ≡ 32 → ⊥) → i ≡ unequalFrom z [] (pos 0) i (length z - i)
+  blanks-no h e =
+      unequal-is z [] (pos 0) i (length z - i) i
+      (record {
+        from = omega arith;
+        within = omega arith;
+        equal = λ j k l. omega arith;
+        unequal = λ k o. e (padded-in z i h ∙ equal-plain (getD z i 32) 32 (sym (ended z [] (pos 0) i (omega arith)) ∙ o));
+      })
+
+  -- the text beside itself, one place on: behind a blank, each that is equal to the one before it is a blank
+  module _ (h : i < length z) (b : getD z i 0 ≡ 32) (n u : ℕ) (e : n ≡ length z - (i + 1)) (f : u ≡ unequalFrom (rest z (i + 1)) (rest z i) (pos 0) 0 n) where
+    whole-blanks : FirstFrom (rest z (i + 1)) (rest z i) (pos 0) 0 n u
+    whole-blanks = rw (← f, zero-add) at (first-from (rest z (i + 1)) (rest z i) (pos 0) 0 n)
+
+    beside : (k : ℕ) → k < n → orderAt (rest z (i + 1)) (rest z i) (pos 0) k ≡ orderZ (pos (getD z (i + 1 + k) 32)) (pos (getD z (i + k) 32))
+    beside k l =
+        extent .inside (rest z (i + 1)) (rest z i) (pos 0) k (omega (arith, rest-length z (i + 1))) (omega (arith, rest-length z i))
+        ∙ rw (rest-at z (i + 1) k 32, rest-at z i k 32) (sym (order-plain (getD z (i + 1 + k) 32) (getD z (i + k) 32)))
+
+    all-blanks : (k : ℕ) → k ≤ u → getD z (i + k) 32 ≡ 32
+    all-blanks zero l = let s : i + 0 ≡ i = omega arith in rw s (sym (padded-in z i h) ∙ b)
+    all-blanks (suc k) l =
+        let m : k < n = omega (arith, whole-blanks .within) in
+        let s : i + suc k ≡ i + 1 + k = omega arith in
+        rw s (equal-plain _ _ (sym (beside k m) ∙ whole-blanks .equal k (omega arith) (omega arith)) ∙ all-blanks k (omega arith))
+
+    pub blanks-on : i + 1 + u ≡ unequalFrom z [] (pos 0) i (length z - i)
+    blanks-on =
+        unequal-is z [] (pos 0) i (length z - i) (i + 1 + u)
+        (record {
+          from = omega arith;
+          within = omega (arith, whole-blanks .within);
+          equal = λ j k l.
+              let s : i + (j - i) ≡ j = omega arith in
+              ended z [] (pos 0) j (omega arith) ∙ plain-equal (getD z j 32) 32 (rw s at (all-blanks (j - i) (omega arith)));
+          unequal = λ k o.
+              let m : u < n = omega arith in
+              whole-blanks .unequal m
+              (beside u m ∙ plain-equal _ _ (equal-plain (getD z (i + 1 + u) 32) 32 (sym (ended z [] (pos 0) (i + 1 + u) (omega arith)) ∙ o) ∙ sym (all-blanks u (omega arith))));
+        })
+
+    pub blanks-fit : length z * 1 < 2 ^ 63 → Fits w64 (i + 1 + u)
+    blanks-fit l = omega (arith, whole-blanks .within)
+
+pub zero-translates : translates (pos 0) ≡ true
+unfolding translates
+zero-translates = refl
+
+pub rests-paired : (z : List ℕ) (i n : ℕ) → characters z ≡ true → i < length z → n ≡ length z - (i + 1) → Paired (rest z (i + 1)) (rest z i) n
+rests-paired z i n c h e =
+    record {
+      within-1 = omega (arith, rest-length z (i + 1));
+      within-2 = omega (arith, rest-length z i);
+      character-1 = λ j l. rw (rest-at z (i + 1) j 0) (character-at z (i + 1 + j) c (omega arith));
+      character-2 = λ j l. rw (rest-at z i j 0) (character-at z (i + j) c (omega arith));
+    }
+
+-- ---- the longer text's tail
+
+module _ (xs ys : List ℕ) (n : ℕ) (p : Ended xs ys n) where
+  -- past the shorter one's end no translation counts
+  pub past-any : (t s : ℤ) (j : ℕ) → n ≤ j → orderAt xs ys t j ≡ orderAt xs ys s j
+  past-any t s j h = extent .past xs ys t j (omega (arith, p .shorter)) ∙ sym (extent .past xs ys s j (omega (arith, p .shorter)))
+
+beside-blanks : (xs ys : List ℕ) (n k : ℕ) → length ys ≤ n → unequalFrom xs [] (pos 0) n k ≡ unequalFrom xs ys (pos 0) n k
+beside-blanks xs ys n k h =
+    let f = first-from xs [] (pos 0) n k in
+    unequal-is xs ys (pos 0) n k (unequalFrom xs [] (pos 0) n k)
+    (record {
+      from = f .from;
+      within = f .within;
+      equal = λ j l m. same j l ∙ f .equal j l m;
+      unequal = λ l o. f .unequal l (sym (same (unequalFrom xs [] (pos 0) n k) (f .from)) ∙ o);
+    })
+  where
+    same : (j : ℕ) → n ≤ j → orderAt xs ys (pos 0) j ≡ orderAt xs [] (pos 0) j
+    same j l = ended xs ys (pos 0) j (omega arith) ∙ sym (ended xs [] (pos 0) j (omega arith))
+
+module _ (xs ys : List ℕ) (n r : ℕ) (p : Ended xs ys n) where
+  pub tail-first : n < length xs → r ≡ unequalFrom xs [] (pos 0) n (length xs - n) → r ≡ unequalFrom xs ys (pos 0) n (max (length xs) (length ys) - n)
+  tail-first h e =
+      let k : length ys ≤ n = omega (arith, p .shorter) in
+      let m : max (length xs) (length ys) ≡ length xs = omega (arith, p .shorter) in
+      rw m (e ∙ beside-blanks xs ys n (length xs - n) k)
+
+  pub tail-second : length xs ≤ n → r ≡ unequalFrom ys [] (pos 0) n (length ys - n) → r ≡ unequalFrom xs ys (pos 0) n (max (length xs) (length ys) - n)
+  tail-second h e =
+      let m : max (length xs) (length ys) ≡ length ys = omega (arith, p .shorter) in
+      rw m (e ∙ beside-blanks ys xs n (length ys - n) h ∙ unequal-turned xs ys (pos 0) n (length ys - n))
+
+pub ruleset pairing-laws = (needs, within-n, n-within, block-start, block-step, block-end, cut-paired, block-passed, block-stopped, all-passed, blanks-none, blanks-no, blanks-on, blanks-fit, zero-translates, rests-paired, tail-first, tail-second)

@@ -1,0 +1,23 @@
+use borrow.Author.Needs.{needs}
+use Rattle.compare.proofs.Pairing.{pairing-laws}
+use Rattle.compare.proofs.pairs.blanks_end.Statement.{statement}
+use Rattle.compare.proofs.pairs.blanks_end.Tie as tie
+
+pub blanks-end-spec : {M : Type 1} → statement M
+blanks-end-spec =
+    tie.close
+    (tie.spec
+    (λ c. search pairing-laws)
+    (λ c. search needs)
+    (λ c. search pairing-laws)
+    (λ c. search needs)
+    (λ c. search needs)
+    (λ c. search needs)
+    (λ c. search needs)
+    (λ c. search needs)
+    (λ c. search needs)
+    (λ c. search needs)
+    (λ c. search needs)
+    (λ c κs. search pairing-laws)
+    (λ c. search pairing-laws)
+    (λ c. search pairing-laws))

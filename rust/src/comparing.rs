@@ -13,8 +13,9 @@ pub struct Comparison {
     pub split: usize,
 }
 
-/// Compares string 1 with string 2, `translation` (−127 to 127) added to every character of string 2. Code 0 equal, 1 not
-/// equal, 2 greater or equal, 3 less or equal, 4 greater, 5 less; style 0 padded, 1 exact, 2 ignore. Refusals 3, 1, 2.
+/// Compares string 1 with string 2. `translation` (−127 to 127) is added to string 2's characters for the extent of the
+/// shorter string: not to its pad blanks, and not to its characters past string 1's end. Code 0 equal, 1 not equal, 2
+/// greater or equal, 3 less or equal, 4 greater, 5 less; style 0 padded, 1 exact, 2 ignore. Refusals 3, 1, 2.
 pub fn compare(
     store: &[u8],
     string1: StrPtr,

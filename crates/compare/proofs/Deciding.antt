@@ -21,7 +21,7 @@ use Rattle.compare.specs.Inner.{Paired, Ended, tailDecision}
 use Rattle.compare.specs.declared.Decision.{Decision}
 use Rattle.compare.proofs.Extending.{extent}
 use Rattle.compare.proofs.Ordering.{order-plain}
-use Rattle.compare.proofs.Pairing.{FirstFrom, first-from, unequal-is, inside-is, past-any, padded-in, padded-past, zero-translates, tail-first, tail-second}
+use Rattle.compare.proofs.Pairing.{FirstFrom, first-from, unequal-is, inside-is, past-any, padded-in, padded-past, zero-translates}
 
 pub order-lengths : (m n q r : ℕ) → q ≡ cond (ltb n m) 2 1 → r ≡ cond (ltb m n) 0 q → r ≡ orderN m n
 unfolding orderN
@@ -150,4 +150,4 @@ module _ (xs ys : List ℕ) (style n d : ℕ) (t t′ : ℤ) (p : Ended xs ys n)
     by-nothing b s eb hb = rw (le-ltb d n h, ← eb, hb) at (by n d (unpadded s) ed)
 
 pub ruleset deciding-laws =
-    (needs, padded-in, padded-past, order-lengths, shortest, both-have, first-pair, read-back, no-pair, zero-translates, tail-first, tail-second, tail-pair, tail-nothing, by-pair, by-tail, by-length, by-nothing)
+    (needs, padded-in, padded-past, order-lengths, shortest, both-have, first-pair, read-back, no-pair, zero-translates, tail-pair, tail-nothing, by-pair, by-tail, by-length, by-nothing)

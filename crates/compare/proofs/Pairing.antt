@@ -186,7 +186,7 @@ module _ (xs ys : List ℕ) (t : ℤ) (n i w : ℕ) (p : Paired xs ys n) (l : i 
         let m : v < w = either w v (λ k. absurd (eqb-false v w (sym e′ ∙ q) (omega (arith, alone .within)))) (λ k. k) in
         either (i + w) u (λ k. absurd (alone .unequal m (cut-order v m ∙ whole .equal (i + v) (omega arith) (omega arith)))) (λ k. k)
 
--- the last blocks are of one pair; r′ is the translation as a byte, t what it is read back from
+-- the last blocks are of one pair; t′ is what the machine reads back from the bits of t″, t what its byte stands for
 pub all-passed : (xs ys : List ℕ) (t t′ t″ : ℤ) (n r : ℕ) → (r ≤ unequalFrom xs ys t 0 n) × (unequalFrom xs ys t 0 n < r + 1) → t ≡ t′ → t′ ≡ t″ → r ≡ unequalFrom xs ys t″ 0 n
 all-passed xs ys t t′ t″ n r h e f = rw (← f, ← e) (omega arith)
 
@@ -305,4 +305,5 @@ module _ (xs ys : List ℕ) (n r : ℕ) (p : Ended xs ys n) where
       let m : max (length xs) (length ys) ≡ length ys = omega (arith, p .shorter) in
       rw m (e ∙ beside-blanks ys xs n (length ys - n) h ∙ unequal-turned xs ys (pos 0) n (length ys - n))
 
-pub ruleset pairing-laws = (needs, within-n, n-within, block-start, block-step, block-end, cut-paired, block-passed, block-stopped, all-passed, blanks-none, blanks-no, blanks-on, blanks-fit, zero-translates, rests-paired, tail-first, tail-second)
+pub ruleset pairing-laws =
+    (needs, within-n, block-start, block-end, all-passed, blanks-none, blanks-no, blanks-on, blanks-fit, zero-translates, rests-paired, tail-first, tail-second)

@@ -6,8 +6,7 @@ mod refusal;
 use strlib::StrPtr;
 ghost use mathlib.Core.Path.{_≡_};
 ghost use mathlib.Core.Bool.{true};
-ghost use Prim.Native.Nat.{_-_, _<_, max};
-ghost use lib.ListN.{length};
+ghost use Prim.Native.Nat.{_<_};
 ghost use lib.IntN.{pos, _+ℤ_};
 ghost use Rattle.strlib.specs.Pointer.{characters};
 ghost use Rattle.compare.specs.Order.{orderZ};
@@ -71,18 +70,7 @@ fn first_unequal(x: &[u8], y: &[u8], t: i64, n: usize) -> usize
     if order(x[0], y[0], t) != 1 {
         return 0;
     }
-    pairs::first_unequal(x, y, t, n)
-}
-
-// From the shorter text's end on, the longer one's first character that is no blank, or its end.
-fn tail_end(x: &[u8], y: &[u8], n: usize) -> usize
-    requires { ⌜ Ended (now x) (now y) n ⌝ }
-    ensures { λ r. ⌜ r ≡ unequalFrom (now (x .entry)) (now (y .entry)) (pos 0) n (max (length (now (x .entry))) (length (now (y .entry))) - n) ⌝ }
-{
-    if n < x.len() {
-        return pairs::blanks_end(x, n);
-    }
-    pairs::blanks_end(y, n)
+    pairs::by_blocks(x, y, t, n)
 }
 
 // Past the shorter text's end, in padded style: the longer one's tail beside blanks, and nothing translated.
@@ -90,7 +78,7 @@ fn decide_tail(x: &[u8], y: &[u8], n: usize) -> Decision
     requires { ⌜ Ended (now x) (now y) n ⌝ }
     ensures { λ r. ⌜ r ≡ tailDecision (now (x .entry)) (now (y .entry)) ⌝ }
 {
-    let d = tail_end(x, y, n);
+    let d = pairs::tail_end(x, y, n);
     if d < numbers::longer(x.len(), y.len()) {
         return Decision {
             order: order(numbers::padded(x, d), numbers::padded(y, d), 0),
@@ -126,7 +114,8 @@ fn decide(x: &[u8], y: &[u8], style: usize, t: i64) -> Decision
     Decision { order: 1, split: 0 }
 }
 
-// Compares string 1 with the translated string 2 in a style, and says whether the code's relation holds.
+// Compares string 1 with string 2, translated for the extent of the shorter one, in a style, and says whether the code's
+// relation holds.
 pub fn compare(
     store: &[u8],
     string1: StrPtr,

@@ -2,14 +2,14 @@
 ghost use mathlib.Core.Path.{_≡_};
 ghost use mathlib.Core.Bool.{true};
 ghost use mathlib.Core.List.{[]};
-ghost use Prim.Native.Nat.{_+_, _-_, _≤_, _<_};
+ghost use Prim.Native.Nat.{_+_, _-_, _≤_, _<_, max};
 ghost use lib.Dec.{eqb};
 ghost use lib.IntN.{pos, subℕ, _+ℤ_};
 ghost use lib.ListN.{length};
 ghost use Rattle.strlib.specs.Pointer.{characters};
 ghost use Rattle.compare.specs.Order.{orderZ};
 ghost use Rattle.compare.specs.Compare.{translates, unequalFrom};
-ghost use Rattle.compare.specs.Inner.{Paired};
+ghost use Rattle.compare.specs.Inner.{Paired, Ended};
 
 // A translation as a byte, 128 more.
 fn raised(t: i64) -> u8
@@ -59,7 +59,7 @@ fn pass_blocks(x: &[u8], y: &[u8], raised: u8, n: usize, from: usize, width: usi
 }
 
 // Of the first n pairs the index of the first unequal one, or n: by blocks, then by ever shorter ones.
-pub(super) fn first_unequal(x: &[u8], y: &[u8], t: i64, n: usize) -> usize
+pub(super) fn by_blocks(x: &[u8], y: &[u8], t: i64, n: usize) -> usize
     requires { ⌜ (translates t ≡ true) × Paired (now x) (now y) n ⌝ }
     ensures { λ r. ⌜ r ≡ unequalFrom (now (x .entry)) (now (y .entry)) t 0 n ⌝ }
 {
@@ -72,7 +72,7 @@ pub(super) fn first_unequal(x: &[u8], y: &[u8], t: i64, n: usize) -> usize
 
 // From index i on, the first character that is no blank, or the text's end. The text is paired with itself, one place
 // on: behind a blank all are blanks up to the first that is unequal to the one before it.
-pub(super) fn blanks_end(z: &[u8], i: usize) -> usize
+fn blanks_end(z: &[u8], i: usize) -> usize
     requires { ⌜ (characters (now z) ≡ true) × (i ≤ length (now z)) ⌝ }
     ensures { λ r. ⌜ r ≡ unequalFrom (now (z .entry)) [] (pos 0) i (length (now (z .entry)) - i) ⌝ }
 {
@@ -84,5 +84,16 @@ pub(super) fn blanks_end(z: &[u8], i: usize) -> usize
         return i;
     }
     let next = i + 1;
-    next + first_unequal(&z[next..], &z[i..], 0, n - next)
+    next + by_blocks(&z[next..], &z[i..], 0, n - next)
+}
+
+// From the shorter text's end on, the longer one's first character that is no blank, or its end.
+pub(super) fn tail_end(x: &[u8], y: &[u8], n: usize) -> usize
+    requires { ⌜ Ended (now x) (now y) n ⌝ }
+    ensures { λ r. ⌜ r ≡ unequalFrom (now (x .entry)) (now (y .entry)) (pos 0) n (max (length (now (x .entry))) (length (now (y .entry))) - n) ⌝ }
+{
+    if n < x.len() {
+        return blanks_end(x, n);
+    }
+    blanks_end(y, n)
 }

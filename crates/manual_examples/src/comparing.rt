@@ -21,15 +21,12 @@ const EXACT: usize = 1;
 
 const IGNORE: usize = 2;
 
-// A statement number of three or four digits. The last call compares otherwise here than in the manual.
+// A statement number of three or four digits.
 fn say_statement(number: usize) {
     if number < 1000 {
         say(b" ");
     }
     say_number(number);
-    if number == 1400 {
-        say(b" (manual: no, its pad is not translated)");
-    }
 }
 
 fn say_sign(sign: i8) {

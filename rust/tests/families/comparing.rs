@@ -4,11 +4,14 @@ use super::laid_out;
 use crate::oracle::comparing as oracle;
 use crate::support::rng::Rng;
 use crate::support::{raw, rounds, shapes, Call, ROUNDS};
-use strlib::{compare, ffi, Comparison, StrPtr};
+use strlib::{compare, ffi, Comparison, Refusal, StrPtr};
 
 /// Two strings that are alike: string 2 is string 1 with the translation taken off, then changed a little at its end or inside.
 fn alike(rng: &mut Rng, translation: i64) -> (Vec<u8>, StrPtr, StrPtr) {
-    let length = rng.up_to(8);
+    let length = match rng.below(4) {
+        0 => rng.up_to(100),
+        _ => rng.up_to(8),
+    };
     let one = shapes::characters(rng, length);
     let mut two: Vec<u8> = one
         .iter()
@@ -18,7 +21,8 @@ fn alike(rng: &mut Rng, translation: i64) -> (Vec<u8>, StrPtr, StrPtr) {
         0 => two.truncate(rng.up_to(length)),
         1 | 2 => {
             let blank = (32 - translation).clamp(0, 127) as u8;
-            two.resize(length + rng.up_to(3), rng.pick(&[32, blank]));
+            let tail = rng.pick(&[1, 3, 70]);
+            two.resize(length + rng.up_to(tail), rng.pick(&[32, blank]));
         }
         _ => {}
     }
@@ -131,7 +135,79 @@ fn printed_examples() {
     assert_eq!(compared(b"abc", b"abc  ", 0, 0, 0), (true, -1, 0)); // J
     assert_eq!(compared(b"abc", b"abc  ", 0, 1, 0), (false, -1, 4)); // K
     assert_eq!(compared(b"abcde", b"abc", 4, 2, 0), (false, 1, 0)); // L
-    assert_eq!(compared(b"ABCD0", b"1234", 0, 0, 16), (true, 1, 0)); // the manual's call 1400
+}
+
+/// The request's examples: the manual's calls 1300 and 1400, each the other way round too, and string 2 past string 1's end.
+#[test]
+fn the_translation_ends_with_the_shorter_string() {
+    assert_eq!(compared(b"ABCD0", b"1234 ", 0, 0, 16), (true, 0, 0)); // a real blank
+    assert_eq!(compared(b"1234 ", b"ABCD0", 0, 0, -16), (true, 0, 0));
+    assert_eq!(compared(b"ABCD0", b"1234", 0, 0, 16), (false, 1, 5)); // a pad blank
+    assert_eq!(compared(b"ABCD0", b"1234", 4, 0, 16), (true, 1, 5));
+    assert_eq!(compared(b"1234", b"ABCD0", 0, 0, -16), (false, -1, 5));
+    assert_eq!(compared(b"1234", b"ABCD0", 5, 0, -16), (true, -1, 5));
+    assert_eq!(compared(b"!", b"", 0, 0, 1), (false, 1, 1));
+    assert_eq!(compared(b" ", b"", 0, 0, 1), (true, 1, 0));
+    assert_eq!(compared(b"", b"\x1f", 0, 0, 1), (false, -1, 1));
+    assert_eq!(compared(b"", b" ", 0, 0, 5), (true, -1, 0));
+    assert_eq!(compared(b"A", b"1 ", 0, 0, 16), (true, -1, 0)); // the shorter by its length
+    for style in [1, 2] {
+        let by_length = [(false, 1, 5), (true, 1, 0)][style - 1];
+        assert_eq!(compared(b"ABCD0", b"1234", 0, style, 16), by_length);
+        assert_eq!(compared(b"ABCD0", b"1234 ", 0, style, 16), (true, 0, 0));
+    }
+}
+
+/// A translation out of range is 3, also where nothing would be translated.
+#[test]
+fn a_translation_out_of_range_is_refused() {
+    let empty = StrPtr::new(0, 0, 0);
+    for style in 0..3 {
+        for by in [-128, 128] {
+            let answer = compare(b"", empty, empty, 0, style, by);
+            assert_eq!(answer, Err(Refusal(3)));
+        }
+        assert!(compare(b"", empty, empty, 0, style, 127).is_ok());
+    }
+}
+
+/// Every length about those of the blocks: equal texts, and texts with one unequal pair at each place, and each tail of
+/// blanks with one other character at each place, either string the longer one.
+#[test]
+fn every_length_and_every_place() {
+    for by in [0, 5, -5] {
+        for length in 0..=70 {
+            let one: Vec<u8> = (0..length).map(|i| 40 + (i * 7 % 80) as u8).collect();
+            let two: Vec<u8> = one.iter().map(|c| (*c as i64 - by) as u8).collect();
+            assert_eq!(compared(&one, &two, 0, 0, by), (true, 0, 0));
+            for place in 0..length {
+                for other in [one[place] - 1, one[place] + 1] {
+                    let mut one = one.clone();
+                    one[place] = other;
+                    assert_eq!(compared(&one, &two, 1, 0, by), (true, 0, place + 1));
+                    assert_eq!(compared(&two, &one, 1, 1, -by), (true, 0, place + 1));
+                }
+            }
+        }
+        for front in [0, 1, 2, 17] {
+            let one = vec![b'x'; front];
+            let two = vec![(b'x' as i64 - by) as u8; front];
+            for tail in 1..=70 {
+                let mut longer = one.clone();
+                longer.resize(front + tail, b' ');
+                assert_eq!(compared(&longer, &two, 0, 0, by), (true, 1, 0));
+                assert_eq!(compared(&two, &longer, 0, 0, -by), (true, -1, 0));
+                for place in front..front + tail {
+                    for (other, less) in [(31, true), (33, false)] {
+                        longer[place] = other;
+                        assert_eq!(compared(&longer, &two, 5, 0, by), (less, 1, place + 1));
+                        assert_eq!(compared(&two, &longer, 5, 0, -by), (!less, -1, place + 1));
+                    }
+                    longer[place] = b' ';
+                }
+            }
+        }
+    }
 }
 
 #[test]
@@ -140,8 +216,6 @@ fn sums_may_be_negative_and_over_127() {
     assert_eq!(compared(b"\x7f", b"\x7f", 5, 1, 127), (true, 0, 1));
     assert_eq!(compared(b"\x7f", b"\0", 0, 1, 127), (true, 0, 0));
     assert_eq!(compared(b"", b"", 0, 0, 127), (true, 0, 0));
-    assert_eq!(compared(b"!", b"", 0, 0, 1), (true, 1, 0)); // the pad blank is translated too
-    assert_eq!(compared(b"", b"\x1f", 0, 0, 1), (true, -1, 0));
 }
 
 #[test]

@@ -1,4 +1,4 @@
-//! "Comparing".
+//! "Comparing", and W4: the translation is added to string 2 for the extent of the shorter string only.
 
 use super::*;
 use std::cmp::Ordering;
@@ -19,9 +19,13 @@ pub fn compare(
 
     let one = characters(store, string1);
     let two = characters(store, string2);
-    let left = |i: usize| one.get(i).copied().unwrap_or(BLANK) as i64;
-    let right = |i: usize| two.get(i).copied().unwrap_or(BLANK) as i64 + translation;
     let shorter = one.len().min(two.len());
+    let left = |i: usize| one.get(i).copied().unwrap_or(BLANK) as i64;
+    let right = |i: usize| match two.get(i) {
+        Some(character) if i < one.len() => *character as i64 + translation,
+        Some(character) => *character as i64,
+        None => BLANK as i64,
+    };
     let pairs = match style {
         0 => one.len().max(two.len()),
         _ => shorter,

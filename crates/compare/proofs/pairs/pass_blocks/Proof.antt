@@ -3,7 +3,7 @@ use borrow.Author.Tests.{not-true, not-false}
 use Prim.Native.Nat.{_≤_, _-_}
 use lib.IntN.{subℕ}
 use Rattle.compare.specs.Compare.{unequalFrom}
-use Rattle.compare.proofs.Pairing.{block-passed, block-stopped, n-within, pairing-laws}
+use Rattle.compare.proofs.Pairing.{cut-paired, block-passed, block-stopped, n-within, pairing-laws}
 use Rattle.compare.proofs.pairs.pass_blocks.Statement.{statement}
 use Rattle.compare.proofs.pairs.pass_blocks.Tie as tie
 
@@ -12,6 +12,12 @@ Inv-loop x y raised n from width i₀ i = (i ≤ n) × (i ≤ unequalFrom x y (s
 
 abbrev μ-loop : tie.MeasureT-loop
 μ-loop x y raised n from width i₀ i = n - i
+
+cuts : tie.Need-are-equal-requires Inv-loop μ-loop
+cuts c κs =
+    let start = c .before .before .before .before .before .before in
+    let loop = c .before .before .before .loop in
+    cut-paired _ _ _ _ (loop .i) _ (start .pre .0) (loop .inv .1) (search needs)
 
 stops : tie.Need-returns Inv-loop μ-loop
 stops c =
@@ -40,7 +46,7 @@ pass-blocks-spec =
     (λ c. search needs)
     (λ c. search needs)
     (λ c. search needs)
-    (λ c κs. search pairing-laws)
+    cuts
     stops
     (λ c. search needs)
     passes

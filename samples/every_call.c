@@ -29,6 +29,12 @@ static void comparing(void) {
     compared(CALL(strlib_compare(store, used, x, y, 0, 1, -128)));
     compared(CALL(strlib_compare(store, used, over, outside, 0, 1, 0)));
     compared(CALL(strlib_compare(store, used, x, over, 1, 1, 0)));
+    PUT("ABCD01234 ");
+    const strlib_ptr abcd0 = at(0, 5, 5), blank = at(5, 5, 5), s1234 = at(5, 4, 4), none = at(0, 0, 0);
+    compared(CALL(strlib_compare(store, used, abcd0, blank, 0, 0, 16))); /* W4 */
+    compared(CALL(strlib_compare(store, used, abcd0, s1234, 0, 0, 16)));
+    compared(CALL(strlib_compare(store, used, s1234, abcd0, 0, 0, -16)));
+    compared(CALL(strlib_compare(store, used, none, at(9, 1, 1), 0, 0, 5)));
 }
 
 static void cutting(void) {

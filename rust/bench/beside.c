@@ -1,9 +1,10 @@
 /* With JOBS defined: the calls that are timed, of one library. Without: the run that times two libraries, and C, in
- * turns, after it has seen that all leave the same bytes. */
+ * turns, after it has seen that all leave the same bytes and give the same answer. */
 #include <stdint.h>
 #include <string.h>
 
 #define STORE 65536
+#define SECOND 32768 /* where string 2 of a comparison stands */
 
 #ifdef JOBS
 #include "strlib.h"
@@ -23,11 +24,24 @@ static strlib_list all(size_t start, size_t n)
     return *list;
 }
 
+/* The split of a comparison in padded style, which its C peer below gives as 0 or 1; 2 where it is refused. */
+static int compared(const uint8_t *store, size_t m, size_t n, int translation)
+{
+    strlib_comparison c = strlib_compare(store, STORE, full(0, m), full(SECOND, n), 0, 0, translation);
+    return c.refusal ? 2 : (int)c.split;
+}
+
 /* job 0: 32 strings of n joined before themselves; 1: behind themselves; 2: n copied; 3, 4: a character put in front of
- * n, taken from the front of n */
+ * n, taken from the front of n; 5 to 7: n compared with n, equal, equal by a translation, unequal in the first pair; 8, 9:
+ * n blanks compared with none, none with n */
 int JOBS(uint8_t *store, int job, size_t n)
 {
     switch (job) {
+    case 5:
+    case 7: return compared(store, n, n, 0);
+    case 6: return compared(store, n, n, 5);
+    case 8: return compared(store, n, 0, 0);
+    case 9: return compared(store, 0, n, 0);
     case 0: return strlib_join(store, STORE, (strlib_ptr){0, 0, 60000}, all(60000, n), false).refusal;
     case 1: return strlib_join(store, STORE, (strlib_ptr){4000, 0, 60000}, all(0, n), false).refusal;
     case 2: return strlib_copy(store, STORE, (strlib_ptr){0, 0, n}, full(30000, n), false).refusal;
@@ -43,10 +57,17 @@ int JOBS(uint8_t *store, int job, size_t n)
 int old(uint8_t *store, int job, size_t n);
 int new(uint8_t *store, int job, size_t n);
 
-/* The same bytes moved, and nothing checked. */
+static uint8_t peer[STORE]; /* what memcmp compares string 1 with */
+
+/* The same bytes moved or compared, and nothing checked. */
 static int c(uint8_t *store, int job, size_t n)
 {
     switch (job) {
+    case 5:
+    case 6:
+    case 7:
+    case 8: return memcmp(store, peer, n) != 0;
+    case 9: return memcmp(store + SECOND, peer, n) != 0;
     case 0:
         for (size_t i = 0; i < 32; i++)
             memcpy(store + i * n, store + 60000, n);
@@ -75,14 +96,27 @@ static double now(void)
     return 1e9 * (double)t.tv_sec + (double)t.tv_nsec;
 }
 
-/* Whether all three leave the same bytes. */
+static void fill(uint8_t *store, int job)
+{
+    for (size_t i = 0; i < STORE; i++)
+        store[i] = (uint8_t)(i % 127);
+    if (job < 5)
+        return;
+    for (size_t i = 0; i < SECOND; i++) {
+        store[i] = peer[i] = (uint8_t)(job < 8 ? 40 + i % 80 : ' ');
+        store[SECOND + i] = (uint8_t)(store[i] - (job == 6 ? 5 : 0));
+    }
+    if (job == 7)
+        store[SECOND] = peer[0] = '!';
+}
+
+/* Whether all three leave the same bytes and give the same answer. */
 static int alike(uint8_t *store, int job, size_t n)
 {
     static uint8_t first[STORE];
     for (int side = 0; side < 3; side++) {
-        for (size_t i = 0; i < STORE; i++)
-            store[i] = (uint8_t)(i % 127);
-        if (sides[side](store, job, n))
+        fill(store, job);
+        if (sides[side](store, job, n) != (job == 7))
             return 0;
         if (side == 0)
             memcpy(first, store, STORE);
@@ -92,7 +126,8 @@ static int alike(uint8_t *store, int job, size_t n)
     return 1;
 }
 
-int main(void)
+/* With a word, only the jobs whose names begin with it. */
+int main(int argc, char **argv)
 {
     /* from n to `to`: the mean over these lengths */
     static const struct { const char *name; int job; size_t n, to; } jobs[] = {
@@ -109,17 +144,34 @@ int main(void)
         {"copy of 30,000", 2, 30000, 30000},
         {"a character put in front of 60,000", 3, 60000, 60000},
         {"a character taken from the front of 60,000", 4, 60000, 60000},
+        {"compare of 0", 5, 0, 0},
+        {"compare of 1 with 1, equal", 5, 1, 1},
+        {"compare of 4 with 4, equal", 5, 4, 4},
+        {"compare of 8 with 8, equal", 5, 8, 8},
+        {"compare of 16 with 16, equal", 5, 16, 16},
+        {"compare of 16 with 16, equal by a translation", 6, 16, 16},
+        {"compare of 16 with 16, unequal at once", 7, 16, 16},
+        {"compare of equal ones, each length 1 to 16", 5, 1, 16},
+        {"compare of equal ones, each length 17 to 240", 5, 17, 240},
+        {"compare of 30,000 with 30,000, equal", 5, 30000, 30000},
+        {"compare of 30,000 with 30,000, equal by a translation", 6, 30000, 30000},
+        {"compare of 16 blanks with none", 8, 16, 16},
+        {"compare of none with 16 blanks", 9, 16, 16},
+        {"compare of 30,000 blanks with none", 8, 30000, 30000},
+        {"compare of none with 30,000 blanks", 9, 30000, 30000},
     };
     uint8_t *store = malloc(STORE);
     if (!store)
         return 1;
     for (size_t j = 0; j < sizeof jobs / sizeof *jobs; j++) {
+        if (argc > 1 && strncmp(jobs[j].name, argv[1], strlen(argv[1])) != 0)
+            continue;
         double least[3] = {1e18, 1e18, 1e18};
         size_t lengths = jobs[j].to - jobs[j].n + 1;
         size_t calls = jobs[j].n < 1000 ? 1 + 63 / lengths : 8;
         for (size_t n = jobs[j].n; n <= jobs[j].to; n++)
             if (!alike(store, jobs[j].job, n)) {
-                fprintf(stderr, "beside: %s: refused, or other bytes\n", jobs[j].name);
+                fprintf(stderr, "beside: %s: refused, or another answer, or other bytes\n", jobs[j].name);
                 return 1;
             }
         for (int round = 0; round < 1000; round++)

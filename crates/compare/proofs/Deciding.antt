@@ -10,7 +10,7 @@ use lib.Dec.{eqb, ltb}
 use lib.IntN.{ℤ, pos, _+ℤ_}
 use lib.ListN.{length, getD}
 use borrow.Author.Needs.{needs}
-use borrow.Author.Tests.{ltb-true, eq-eqb, ne-eqb, lt-ltb, le-ltb}
+use borrow.Author.Tests.{eq-eqb, ne-eqb, lt-ltb, le-ltb}
 use Rattle.strlib.proofs.Pointing.{either}
 use Rattle.strlib.proofs.Refusing.{bool-case}
 use Rattle.strlib.proofs.Texts.{character-at}
@@ -21,7 +21,8 @@ use Rattle.compare.specs.Inner.{Paired, Ended, tailDecision}
 use Rattle.compare.specs.declared.Decision.{Decision}
 use Rattle.compare.proofs.Extending.{extent}
 use Rattle.compare.proofs.Ordering.{order-plain}
-use Rattle.compare.proofs.Pairing.{FirstFrom, first-from, unequal-is, inside-is, past-any, padded-in, padded-past, zero-translates}
+use Rattle.compare.proofs.Pairing.{FirstFrom, first-from, unequal-is, inside-is, padded-in, padded-past}
+use Rattle.compare.proofs.Tailing.{past-any, zero-translates}
 
 pub order-lengths : (m n q r : ℕ) → q ≡ cond (ltb n m) 2 1 → r ≡ cond (ltb m n) 0 q → r ≡ orderN m n
 unfolding orderN
@@ -65,16 +66,24 @@ module _ (xs ys : List ℕ) (n d : ℕ) (p : Ended xs ys n) (e : d ≡ unequalFr
   tail-from : n ≤ d
   tail-from = rw e (first-from xs ys (pos 0) n (max (length xs) (length ys) - n) .from)
 
-  pub tail-pair : (m o a b : ℕ) → m ≡ max (length xs) (length ys) → d < m → a ≡ getD xs d 32 → b ≡ getD ys d 32 → o ≡ orderZ (pos a) (pos b +ℤ pos 0)
-      → record { order = o; split = d + 1 } ≡ tailDecision xs ys
-  unfolding decided
-  tail-pair m o a b em h ea eb eo =
-      let k : d < max (length xs) (length ys) = rw em at h in
-      rw (eo, ea, eb, ← order-plain (getD xs d 32) (getD ys d 32), ← extent .past xs ys (pos 0) d (omega (arith, p .shorter, tail-from))) (rw (lt-ltb d (max (length xs) (length ys)) k) at tail-by)
+  tail-order : orderAt xs ys (pos 0) d ≡ orderZ (pos (getD xs d 32)) (pos (getD ys d 32) +ℤ pos 0)
+  tail-order = extent .past xs ys (pos 0) d (omega (arith, p .shorter, tail-from)) ∙ order-plain (getD xs d 32) (getD ys d 32)
 
-  pub tail-nothing : (m : ℕ) → m ≡ max (length xs) (length ys) → m ≤ d → record { order = 1; split = 0 } ≡ tailDecision xs ys
+  tail-pair : (o : ℕ) → d < max (length xs) (length ys) → o ≡ orderAt xs ys (pos 0) d → record { order = o; split = d + 1 } ≡ tailDecision xs ys
+  unfolding decided
+  tail-pair o h eo = rw eo (rw (lt-ltb d (max (length xs) (length ys)) h) at tail-by)
+
+  pub tail-of-first : (o : ℕ) → d < length xs → o ≡ orderZ (pos (getD xs d 0)) (pos 32 +ℤ pos 0) → record { order = o; split = d + 1 } ≡ tailDecision xs ys
+  tail-of-first o h eo =
+      let k : length ys ≤ d = omega (arith, p .shorter, tail-from) in
+      tail-pair o (omega arith) (eo ∙ rw (padded-in xs d h) (rw (sym (padded-past ys d 32 k)) at (sym tail-order)))
+
+  pub tail-of-second : (o : ℕ) → length xs ≤ d → d < length ys → o ≡ orderZ (pos 32) (pos (getD ys d 0) +ℤ pos 0) → record { order = o; split = d + 1 } ≡ tailDecision xs ys
+  tail-of-second o k h eo = tail-pair o (omega arith) (eo ∙ rw (padded-in ys d h) (rw (sym (padded-past xs d 32 k)) at (sym tail-order)))
+
+  pub tail-nothing : length xs ≤ d → length ys ≤ d → record { order = 1; split = 0 } ≡ tailDecision xs ys
   unfolding decided lengthDecides
-  tail-nothing m em h = let k : max (length xs) (length ys) ≤ d = rw em at h in rw (le-ltb d (max (length xs) (length ys)) k) at tail-by
+  tail-nothing h k = let m : max (length xs) (length ys) ≤ d = omega arith in rw (le-ltb d (max (length xs) (length ys)) m) at tail-by
 
 -- ---- the decision
 
@@ -150,4 +159,4 @@ module _ (xs ys : List ℕ) (style n d : ℕ) (t t′ : ℤ) (p : Ended xs ys n)
     by-nothing b s eb hb = rw (le-ltb d n h, ← eb, hb) at (by n d (unpadded s) ed)
 
 pub ruleset deciding-laws =
-    (needs, padded-in, padded-past, order-lengths, shortest, both-have, first-pair, read-back, no-pair, zero-translates, tail-pair, tail-nothing, by-pair, by-tail, by-length, by-nothing)
+    (needs, order-lengths, shortest, both-have, first-pair, read-back, no-pair, zero-translates, tail-of-first, tail-of-second, tail-nothing, by-pair, by-tail, by-length, by-nothing)

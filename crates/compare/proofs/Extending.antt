@@ -1,18 +1,19 @@
 -- How far the translation reaches: what W4 promises beside the rule itself. Assumes nothing.
 use mathlib.Core.Path.{_≡_, refl, sym, _∙_}
-use mathlib.Core.Bool.{Bool, true, false, cond, not, _&&_}
 use mathlib.Core.List.{List}
-use Prim.Native.Nat.{ℕ, zero, suc, _+_, _-_, _≤_, _<_, min, max}
+use Prim.Native.Nat.{ℕ, zero, suc, _+_, _-_, _≤_, _<_, min}
 use native.Mathlib.Omega.{arith}
 use lib.Dec.{eqb, ltb}
-use lib.IntN.{ℤ, pos, negℤ, _+ℤ_}
+use lib.IntN.{ℤ, pos, negℤ}
 use lib.ListN.{length, getD}
-use borrow.Author.Tests.{ltb-true, ltb-false, eqb-true, eqb-false, eq-eqb, ne-eqb, lt-ltb, le-ltb}
+use borrow.Author.Tests.{ltb-true, ne-eqb, lt-ltb, le-ltb}
 use Rattle.strlib.proofs.Pointing.{either}
 use Rattle.strlib.proofs.Refusing.{bool-case}
-use Rattle.compare.specs.Order.{orderZ, orderN, signOf}
-use Rattle.compare.specs.Compare.{holds, pairs, lengthDecides, translated, orderAt, unequalFrom, decided, decision, comparison}
-use Rattle.compare.specs.Extent.{Extent, orderBefore, unequalBefore, decidedBefore, decisionBefore, comparisonBefore, Unchanged, Turned}
+use Rattle.strlib.specs.Pointer.{textOf}
+use Rattle.strlib.specs.declared.StrPtr.{StrPtr}
+use Rattle.compare.specs.Order.{orderZ}
+use Rattle.compare.specs.Compare.{pairs, lengthDecides, translated, orderAt, unequalFrom, decided, decision, comparison, compareRule}
+use Rattle.compare.specs.Extent.{Extent, orderBefore, unequalBefore, decidedBefore, decisionBefore, comparisonBefore, ruleBefore, Unchanged, Turned}
 use Rattle.compare.specs.declared.Decision.{Decision}
 use Rattle.compare.proofs.Ordering.{eqb-same, order-plain, order-turned, plain-turned, lengths-turned}
 
@@ -66,16 +67,30 @@ pairs-shorter : (style m n : ℕ) → (style ≡ 0 → ⊥) → pairs style m n 
 unfolding pairs
 pairs-shorter style m n h = rw (ne-eqb style 0 h)
 
-pairs-one-length : (style m n : ℕ) → m ≡ n → pairs style m n ≡ min m n
+pairs-equal-length : (style m n : ℕ) → m ≡ n → pairs style m n ≡ min m n
 unfolding pairs
-pairs-one-length style m n h = bool-case (eqb style 0) (λ e. rw e (omega arith)) (λ e. rw e)
+pairs-equal-length style m n h = bool-case (eqb style 0) (λ e. rw e (omega arith)) (λ e. rw e)
+
+rule-before : (s : List ℕ) (a b : StrPtr) (code style : ℕ) (t : ℤ) → comparison (textOf s a) (textOf s b) code style t ≡ comparisonBefore (textOf s a) (textOf s b) code style t
+    → compareRule s a b code style t ≡ ruleBefore s a b code style t
+unfolding compareRule ruleBefore
+rule-before s a b code style t e = rw e
+
+-- as many pairs as the shorter has
+inside-before : (s : List ℕ) (a b : StrPtr) (code style : ℕ) (t : ℤ)
+    → pairs style (length (textOf s a)) (length (textOf s b)) ≡ min (length (textOf s a)) (length (textOf s b))
+    → compareRule s a b code style t ≡ ruleBefore s a b code style t
+inside-before s a b code style t e =
+    rule-before s a b code style t (comparison-before (textOf s a) (textOf s b) t code style (λ j l. before-inside (textOf s a) (textOf s b) t j (rw e at l)))
 
 pub unchanged : Unchanged
 unchanged =
     record {
-      unpadded = λ xs ys code style t h. comparison-before xs ys t code style (λ j l. before-inside xs ys t j (rw (pairs-shorter style (length xs) (length ys) h) at l));
-      untranslated = λ xs ys code style. comparison-before xs ys (pos 0) code style (λ j l. untranslated-before xs ys j);
-      one-length = λ xs ys code style t h. comparison-before xs ys t code style (λ j l. before-inside xs ys t j (rw (pairs-one-length style (length xs) (length ys) h) at l));
+      unpadded = λ s a b code style t h. inside-before s a b code style t (pairs-shorter style (length (textOf s a)) (length (textOf s b)) h);
+      untranslated = λ s a b code style.
+          rule-before s a b code style (pos 0)
+          (comparison-before (textOf s a) (textOf s b) (pos 0) code style (λ j l. untranslated-before (textOf s a) (textOf s b) j));
+      equal-length = λ s a b code style t h. inside-before s a b code style t (pairs-equal-length style (length (textOf s a)) (length (textOf s b)) h);
     }
 
 -- ---- the comparison turned round

@@ -17,8 +17,10 @@ pub record Examples : Type 0 where
   -- string 2 past string 1's end: 31 + 1 would be a blank, 32 is one
   pub tail : comparison [] (31 ∷ []) 0 0 (pos 1) ≡ record { yes = false; sign = negsuc 0; split = 1 }
   pub tail-blank : comparison [] (bytes " ") 0 0 (pos 5) ≡ record { yes = true; sign = negsuc 0; split = 0 }
-  -- the shorter string by its length, not by its trimmed text
+  -- and a real blank there is no more translated than the pad
   pub blank-behind : comparison (bytes "A") (bytes "1 ") 0 0 (pos 16) ≡ record { yes = true; sign = negsuc 0; split = 0 }
+  -- the shorter string by its length, not by its trimmed text, by which byte 16 would not be translated to a blank
+  pub blank-within : comparison (bytes "A ") (49 ∷ 16 ∷ []) 0 0 (pos 16) ≡ record { yes = true; sign = pos 0; split = 0 }
   -- in padded style the split may lie past the shorter length
   pub past-shorter : comparison (bytes "ab") (bytes "abc") 5 0 (pos 0) ≡ record { yes = true; sign = negsuc 0; split = 3 }
   -- a sum under 0 is less than any character
@@ -35,6 +37,7 @@ examples =
       tail = refl;
       tail-blank = refl;
       blank-behind = refl;
+      blank-within = refl;
       past-shorter = refl;
       under-zero = refl;
     }

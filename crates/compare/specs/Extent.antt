@@ -6,8 +6,11 @@ use mathlib.Core.List.{List}
 use lib.Dec.{ltb, eqb}
 use lib.ListN.{length, getD}
 use lib.IntN.{ℤ, pos, negℤ, _+ℤ_}
+use Rattle.strlib.specs.Pointer.{textOf}
+use Rattle.strlib.specs.Refusal.{Outcome, outcome}
+use Rattle.strlib.specs.declared.StrPtr.{StrPtr}
 use Rattle.compare.specs.Order.{orderZ, orderN, signOf}
-use Rattle.compare.specs.Compare.{holds, pairs, lengthDecides, orderAt, decision, comparison}
+use Rattle.compare.specs.Compare.{holds, pairs, lengthDecides, orderAt, decision, compareRefusal, compareRule}
 use Rattle.compare.specs.declared.Comparison.{Comparison}
 use Rattle.compare.specs.declared.Decision.{Decision}
 
@@ -44,18 +47,21 @@ comparisonBefore xs ys code style t =
       split = decisionBefore xs ys style t .split;
     }
 
--- nothing changes in exact and ignore style, nor without a translation, nor between strings of one length
+unfoldable pub ruleBefore : List ℕ → StrPtr → StrPtr → ℕ → ℕ → ℤ → Outcome Comparison
+ruleBefore s a b code style t = outcome (compareRefusal s a b code style t) (comparisonBefore (textOf s a) (textOf s b) code style t)
+
+-- nothing changes in exact and ignore style, nor without a translation, nor between strings of equal length
 pub record Unchanged : Type 0 where
-  pub unpadded : (xs ys : List ℕ) (code style : ℕ) (t : ℤ) → (style ≡ 0 → ⊥)
-      → comparison xs ys code style t ≡ comparisonBefore xs ys code style t
-  pub untranslated : (xs ys : List ℕ) (code style : ℕ)
-      → comparison xs ys code style (pos 0) ≡ comparisonBefore xs ys code style (pos 0)
-  pub one-length : (xs ys : List ℕ) (code style : ℕ) (t : ℤ) → length xs ≡ length ys
-      → comparison xs ys code style t ≡ comparisonBefore xs ys code style t
+  pub unpadded : (s : List ℕ) (a b : StrPtr) (code style : ℕ) (t : ℤ) → (style ≡ 0 → ⊥)
+      → compareRule s a b code style t ≡ ruleBefore s a b code style t
+  pub untranslated : (s : List ℕ) (a b : StrPtr) (code style : ℕ)
+      → compareRule s a b code style (pos 0) ≡ ruleBefore s a b code style (pos 0)
+  pub equal-length : (s : List ℕ) (a b : StrPtr) (code style : ℕ) (t : ℤ) → length (textOf s a) ≡ length (textOf s b)
+      → compareRule s a b code style t ≡ ruleBefore s a b code style t
 
 -- ---- the comparison turned round
 
--- the strings changed over and the translation negated, the split is the same and the order, 0 to 2, the opposite
+-- the strings exchanged and the translation negated, the split is the same and the order, 0 to 2, the opposite
 abbrev pub Turned : Type 0
 Turned =
     (xs ys : List ℕ) (style : ℕ) (t : ℤ)

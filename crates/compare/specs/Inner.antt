@@ -1,4 +1,4 @@
--- What functions inside the crate ask of their callers. Assumes nothing.
+-- What functions inside the crate ask of their callers, and promise them. Assumes nothing.
 use Prim.Native.Nat.{ℕ, _-_, _≤_, _<_, min, max}
 use mathlib.Core.Path.{_≡_}
 use mathlib.Core.Bool.{true}
@@ -9,7 +9,7 @@ use Rattle.strlib.specs.Pointer.{characters}
 use Rattle.compare.specs.Compare.{unequalFrom, decided}
 use Rattle.compare.specs.declared.Decision.{Decision}
 
--- two texts that both have n pairs, of characters
+-- n pairs that both texts have, all of characters
 pub record Paired (xs ys : List ℕ) (n : ℕ) : Type 0 where
   pub within-1 : n ≤ length xs
   pub within-2 : n ≤ length ys
@@ -22,7 +22,7 @@ pub record Ended (xs ys : List ℕ) (n : ℕ) : Type 0 where
   pub characters-1 : characters xs ≡ true
   pub characters-2 : characters ys ≡ true
 
--- what decides past the shorter text's end, where all pairs before it are equal
+-- in padded style, what decides past the shorter text's end, where all pairs before it are equal
 unfoldable pub tailDecision : List ℕ → List ℕ → Decision
 tailDecision xs ys =
     let m : ℕ = min (length xs) (length ys) in

@@ -58,8 +58,8 @@ fn order(x: u8, y: u8, t: i64) -> usize
     numbers::pick(a < b, 0, numbers::pick(b < a, 2, 1))
 }
 
-// Of the first n pairs, which both texts have, the index of the first unequal one, or n. Most texts differ in their
-// first pair, and then no block is looked at.
+// Of the first n pairs, which both texts have, the index of the first unequal one, or n. Where the first pair tells, no
+// block is looked at.
 fn first_unequal(x: &[u8], y: &[u8], t: i64, n: usize) -> usize
     requires { ⌜ (translates t ≡ true) × Paired (now x) (now y) n ⌝ }
     ensures { λ r. ⌜ r ≡ unequalFrom (now (x .entry)) (now (y .entry)) t 0 n ⌝ }
@@ -79,9 +79,15 @@ fn decide_tail(x: &[u8], y: &[u8], n: usize) -> Decision
     ensures { λ r. ⌜ r ≡ tailDecision (now (x .entry)) (now (y .entry)) ⌝ }
 {
     let d = pairs::tail_end(x, y, n);
-    if d < numbers::longer(x.len(), y.len()) {
+    if d < x.len() {
         return Decision {
-            order: order(numbers::padded(x, d), numbers::padded(y, d), 0),
+            order: order(x[d], b' ', 0),
+            split: d + 1,
+        };
+    }
+    if d < y.len() {
+        return Decision {
+            order: order(b' ', y[d], 0),
             split: d + 1,
         };
     }

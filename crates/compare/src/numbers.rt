@@ -2,8 +2,7 @@
 use strlib::StrPtr;
 ghost use mathlib.Core.Path.{_≡_};
 ghost use mathlib.Core.Bool.{cond};
-ghost use Prim.Native.Nat.{min, max};
-ghost use lib.ListN.{getD};
+ghost use Prim.Native.Nat.{min};
 ghost use Rattle.compare.specs.Order.{orderN, signOf};
 ghost use Rattle.compare.specs.Compare.{translates, lengthDecides};
 
@@ -37,23 +36,10 @@ pub fn sign_of(m: usize, n: usize) -> i8
     0
 }
 
-// Character i of a text, counted from 0, with blanks past its end.
-pub fn padded(x: &[u8], i: usize) -> u8
-    ensures { λ r. ⌜ r ≡ getD (now (x .entry)) i 32 ⌝ }
-{
-    if i < x.len() { x[i] } else { b' ' }
-}
-
 pub fn shorter(m: usize, n: usize) -> usize
     ensures { λ r. ⌜ r ≡ min m n ⌝ }
 {
     if m < n { m } else { n }
-}
-
-pub fn longer(m: usize, n: usize) -> usize
-    ensures { λ r. ⌜ r ≡ max m n ⌝ }
-{
-    if m < n { n } else { m }
 }
 
 // Exact style's length rule.

@@ -64,7 +64,7 @@ pub(super) fn by_blocks(x: &[u8], y: &[u8], t: i64, n: usize) -> usize
     ensures { λ r. ⌜ r ≡ unequalFrom (now (x .entry)) (now (y .entry)) t 0 n ⌝ }
 {
     let raised = raised(t);
-    let i = pass_blocks(x, y, raised, n, 0, 32);
+    let i = pass_blocks(x, y, raised, n, 0, 64);
     let i = pass_blocks(x, y, raised, n, i, 16);
     let i = pass_blocks(x, y, raised, n, i, 4);
     pass_blocks(x, y, raised, n, i, 1)

@@ -1,7 +1,8 @@
 // The manual's worked examples of comparing, cutting and replacing, its sections 3.1, 3.3, 3.5 and 5.1, with what the
-// rules of document 01 give; those of copying are in manual_copies, those that search or convert in manual_searches. A
-// line is the section, the manual's statement number or its name for the answer, and the answer: a string as its
-// characters, its length and its maximum. Where the manual prints another answer, the line says so in brackets.
+// rules of documents 01 and 02 give; those of copying are in manual_copies, those that search or convert in
+// manual_searches, where a line says so in brackets if the manual prints another answer. A line is the section, the
+// manual's statement number or its name for the answer, and the answer: a string as its characters, its length and its
+// maximum.
 //
 // Literals there are padded to whole words of five characters; np('abc') is the three characters alone. A string
 // without a maximum has room enough here. The manual's runs of blanks have come down as one blank: blanks are counted

@@ -80,30 +80,39 @@ fn copies() {
 }
 
 fn comparisons() {
-    let store = vec![b'a'; 60_000];
-    for (style, name) in [(0, "padded"), (1, "exact")] {
+    // string 2 stands behind string 1; as many characters as the longer has are what memcmp compares
+    for (style, by, lengths, name) in [
+        (0, 0, [30_000, 30_000], "30,000 equal characters, padded"),
+        (1, 0, [30_000, 30_000], "30,000 equal characters, exact"),
+        (
+            0,
+            5,
+            [30_000, 30_000],
+            "30,000 characters equal by a translation",
+        ),
+        (0, 5, [30_000, 0], "30,000 blanks with the pad"),
+        (0, 5, [0, 30_000], "the pad with 30,000 blanks"),
+    ] {
+        let mut store = vec![b' '; 60_000];
+        store[lengths[0]..][..lengths[1].min(lengths[0])].fill(b' ' - by);
         let ours = best(|| {
             let said = strlib::compare(
                 black_box(&store),
-                full(0, 30_000),
-                full(30_000, 30_000),
+                full(0, lengths[0]),
+                full(lengths[0], lengths[1]),
                 0,
                 style,
-                0,
+                by.into(),
             );
             assert!(said.unwrap().yes);
         });
+        let same = [b' '; 60_000];
         let theirs = best(|| {
-            let at = black_box(&store).as_ptr();
-            // the two halves of `store`
+            let at = black_box(&same).as_ptr();
+            // the two halves of `same`
             assert!(unsafe { memcmp(at.cast(), at.add(30_000).cast(), black_box(30_000)) } == 0);
         });
-        row(
-            &format!("compare of 30,000 equal characters, {name}"),
-            "memcmp",
-            ours,
-            theirs,
-        );
+        row(&format!("compare of {name}"), "memcmp", ours, theirs);
     }
 }
 

@@ -150,7 +150,8 @@ fn the_translation_ends_with_the_shorter_string() {
     assert_eq!(compared(b" ", b"", 0, 0, 1), (true, 1, 0));
     assert_eq!(compared(b"", b"\x1f", 0, 0, 1), (false, -1, 1));
     assert_eq!(compared(b"", b" ", 0, 0, 5), (true, -1, 0));
-    assert_eq!(compared(b"A", b"1 ", 0, 0, 16), (true, -1, 0)); // the shorter by its length
+    assert_eq!(compared(b"A", b"1 ", 0, 0, 16), (true, -1, 0));
+    assert_eq!(compared(b"A ", b"1\x10", 0, 0, 16), (true, 0, 0)); // the shorter by its length
     for style in [1, 2] {
         let by_length = [(false, 1, 5), (true, 1, 0)][style - 1];
         assert_eq!(compared(b"ABCD0", b"1234", 0, style, 16), by_length);

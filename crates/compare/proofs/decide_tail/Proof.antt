@@ -8,9 +8,11 @@ decide-tail-spec =
     tie.close
     (tie.spec
     (λ c κs. search needs)
-    (λ c κs. search needs)
-    (λ c κs. search needs)
-    (λ c κs. search needs)
+    (λ c. search needs)
+    (λ c κs. search deciding-laws)
+    (λ c. search needs)
+    (λ c. search deciding-laws)
+    (λ c. search needs)
     (λ c κs. search deciding-laws)
     (λ c. search needs)
     (λ c. search deciding-laws)

@@ -1,5 +1,5 @@
 use borrow.Author.Needs.{needs}
-use Rattle.compare.proofs.Pairing.{pairing-laws}
+use Rattle.compare.proofs.Tailing.{tailing-laws}
 use Rattle.compare.proofs.pairs.blanks_end.Statement.{statement}
 use Rattle.compare.proofs.pairs.blanks_end.Tie as tie
 
@@ -7,17 +7,17 @@ pub blanks-end-spec : {M : Type 1} → statement M
 blanks-end-spec =
     tie.close
     (tie.spec
-    (λ c. search pairing-laws)
+    (λ c. search tailing-laws)
     (λ c. search needs)
-    (λ c. search pairing-laws)
-    (λ c. search needs)
-    (λ c. search needs)
+    (λ c. search tailing-laws)
     (λ c. search needs)
     (λ c. search needs)
     (λ c. search needs)
     (λ c. search needs)
     (λ c. search needs)
     (λ c. search needs)
-    (λ c κs. search pairing-laws)
-    (λ c. search pairing-laws)
-    (λ c. search pairing-laws))
+    (λ c. search needs)
+    (λ c. search needs)
+    (λ c κs. search tailing-laws)
+    (λ c. search tailing-laws)
+    (λ c. search tailing-laws))

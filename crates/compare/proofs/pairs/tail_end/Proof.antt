@@ -1,5 +1,5 @@
 use borrow.Author.Needs.{needs}
-use Rattle.compare.proofs.Pairing.{pairing-laws}
+use Rattle.compare.proofs.Tailing.{tailing-laws}
 use Rattle.compare.proofs.pairs.tail_end.Statement.{statement}
 use Rattle.compare.proofs.pairs.tail_end.Tie as tie
 
@@ -8,6 +8,6 @@ tail-end-spec =
     tie.close
     (tie.spec
     (λ c κs. search needs)
-    (λ c. search pairing-laws)
+    (λ c. search tailing-laws)
     (λ c κs. search needs)
-    (λ c. search pairing-laws))
+    (λ c. search tailing-laws))

@@ -104,10 +104,10 @@ typedef struct { uint8_t refusal; bool found; size_t place, length; } strlib_nam
 bool strlib_is_good(size_t store_length, strlib_ptr string);
 
 /* ---- comparing: refusals 3, 1, 2
- * code 0 equal, 1 not equal, 2 greater or equal, 3 less or equal, 4 greater, 5 less; style 0 padded with blanks, 1 exact
- * (equal over the shorter: the longer is greater), 2 ignore (the longer is cut); translation -127 to 127, added to string
- * 2's characters for the extent of the shorter string: not to its pad blanks, and not to its characters past string 1's
- * end; a sum may be negative */
+ * code 0 equal, 1 not equal, 2 greater or equal, 3 less or equal, 4 greater, 5 less; style 0 padded with blanks, 1
+ * exact (equal over the shorter: the longer is greater), 2 ignore (the longer is cut); translation -127 to 127, added
+ * to string 2's characters for the extent of the shorter string: not to its pad blanks, and not to its characters past
+ * string 1's end; a sum may be negative */
 
 strlib_comparison strlib_compare(const uint8_t *store, size_t store_length, strlib_ptr string1, strlib_ptr string2, size_t code,
                                  size_t style, int64_t translation);

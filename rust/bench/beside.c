@@ -32,8 +32,8 @@ static int compared(const uint8_t *store, size_t m, size_t n, int translation)
 }
 
 /* job 0: 32 strings of n joined before themselves; 1: behind themselves; 2: n copied; 3, 4: a character put in front of
- * n, taken from the front of n; 5 to 7: n compared with n, equal, equal by a translation, unequal in the first pair; 8, 9:
- * n blanks compared with none, none with n */
+ * n, taken from the front of n; 5 to 7: n compared with n, equal, equal by a translation, unequal in the first pair; 8,
+ * 9: n blanks compared with none, none with n */
 int JOBS(uint8_t *store, int job, size_t n)
 {
     switch (job) {

@@ -15,8 +15,8 @@ pub struct Comparison {
 
 /// Compares string 1 with string 2. `translation` (−127 to 127) is added to string 2's characters for the extent of the
 /// shorter string: not to its pad blanks, and not to its characters past string 1's end; a sum may be negative. Code 0
-/// equal, 1 not equal, 2 greater or equal, 3 less or equal, 4 greater, 5 less; style 0 padded with blanks, 1 exact (equal
-/// over the shorter: the longer is greater), 2 ignore (the longer is cut). Refusals 3, 1, 2.
+/// equal, 1 not equal, 2 greater or equal, 3 less or equal, 4 greater, 5 less; style 0 padded with blanks, 1 exact
+/// (equal over the shorter: the longer is greater), 2 ignore (the longer is cut). Refusals 3, 1, 2.
 pub fn compare(
     store: &[u8],
     string1: StrPtr,

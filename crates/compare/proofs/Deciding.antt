@@ -10,7 +10,7 @@ use lib.Dec.{eqb, ltb}
 use lib.IntN.{ℤ, pos, _+ℤ_}
 use lib.ListN.{length, getD}
 use borrow.Author.Needs.{needs}
-use borrow.Author.Tests.{eq-eqb, ne-eqb, lt-ltb, le-ltb}
+use borrow.Author.Tests.{eq-eqb, lt-ltb, le-ltb}
 use Rattle.strlib.proofs.Pointing.{either}
 use Rattle.strlib.proofs.Refusing.{bool-case}
 use Rattle.strlib.proofs.Texts.{character-at}
@@ -19,7 +19,7 @@ use Rattle.compare.specs.Order.{orderZ, orderN}
 use Rattle.compare.specs.Compare.{pairs, lengthDecides, orderAt, unequalFrom, decided, decision}
 use Rattle.compare.specs.Inner.{Paired, Ended, tailDecision}
 use Rattle.compare.specs.declared.Decision.{Decision}
-use Rattle.compare.proofs.Extending.{extent}
+use Rattle.compare.proofs.Extending.{extent, pairs-unpadded}
 use Rattle.compare.proofs.Ordering.{order-plain}
 use Rattle.compare.proofs.Pairing.{FirstFrom, first-from, unequal-is, inside-is, padded-in, padded-past}
 use Rattle.compare.proofs.Tailing.{past-any, zero-translates}
@@ -87,9 +87,9 @@ module _ (xs ys : List ℕ) (n d : ℕ) (p : Ended xs ys n) (e : d ≡ unequalFr
 
 -- ---- the decision
 
-pairs-shorter : (style m n : ℕ) → min m n ≤ pairs style m n
+pairs-least : (style m n : ℕ) → min m n ≤ pairs style m n
 unfolding pairs
-pairs-shorter style m n = bool-case (eqb style 0) (λ e. rw e (omega arith)) (λ e. rw e (omega arith))
+pairs-least style m n = bool-case (eqb style 0) (λ e. rw e (omega arith)) (λ e. rw e (omega arith))
 
 module _ (xs ys : List ℕ) (style n d : ℕ) (t t′ : ℤ) (p : Ended xs ys n) (et : t ≡ t′) (ed : d ≡ unequalFrom xs ys t 0 n) where
   by : (m e : ℕ) → m ≡ pairs style (length xs) (length ys) → e ≡ unequalFrom xs ys t 0 m → decided xs ys style t m e ≡ decision xs ys style t′
@@ -103,7 +103,7 @@ module _ (xs ys : List ℕ) (style n d : ℕ) (t t′ : ℤ) (p : Ended xs ys n)
   unfolding decided
   by-pair o h eo =
       let m : ℕ = pairs style (length xs) (length ys) in
-      let k : d < m = omega (arith, pairs-shorter style (length xs) (length ys), p .shorter) in
+      let k : d < m = omega (arith, pairs-least style (length xs) (length ys), p .shorter) in
       let e : d ≡ unequalFrom xs ys t 0 m =
       unequal-is xs ys t 0 m d (record { from = omega arith; within = omega arith; equal = whole .equal; unequal = λ l. whole .unequal h }) in
       rw (eo, inside-is xs ys t n (both-have xs ys n (p .shorter) (p .characters-1) (p .characters-2)) d h) (rw (lt-ltb d m k) at (by m d refl e))
@@ -146,8 +146,7 @@ module _ (xs ys : List ℕ) (style n d : ℕ) (t t′ : ℤ) (p : Ended xs ys n)
     by-tail r s er = rw s (er ∙ sym (tail-by xs ys n tail p refl) ∙ (rw s at (tail-decides ∙ by longer tail (padded s) in-all)))
 
     unpadded : (style ≡ 0 → ⊥) → n ≡ pairs style (length xs) (length ys)
-    unfolding pairs
-    unpadded s = rw (ne-eqb style 0 s) (p .shorter)
+    unpadded s = p .shorter ∙ sym (pairs-unpadded style (length xs) (length ys) s)
 
     pub by-length : (o : ℕ) (b : Bool) → (style ≡ 0 → ⊥) → b ≡ lengthDecides style (length xs) (length ys) → b ≡ true → o ≡ orderN (length xs) (length ys)
         → record { order = o; split = n + 1 } ≡ decision xs ys style t′

@@ -28,7 +28,7 @@ extent =
 -- ---- what stays
 
 module _ (xs ys : List ℕ) (t : ℤ) where
-  pub before-inside : (i : ℕ) → i < min (length xs) (length ys) → orderAt xs ys t i ≡ orderBefore xs ys t i
+  before-inside : (i : ℕ) → i < min (length xs) (length ys) → orderAt xs ys t i ≡ orderBefore xs ys t i
   unfolding orderBefore
   before-inside i h = extent .inside xs ys t i (omega arith) (omega arith)
 
@@ -63,9 +63,9 @@ untranslated-before xs ys i = either (min (length xs) (length ys)) i past (befor
     past : min (length xs) (length ys) ≤ i → orderAt xs ys (pos 0) i ≡ orderBefore xs ys (pos 0) i
     past h = extent .past xs ys (pos 0) i h ∙ before-plain xs ys i
 
-pairs-shorter : (style m n : ℕ) → (style ≡ 0 → ⊥) → pairs style m n ≡ min m n
+pub pairs-unpadded : (style m n : ℕ) → (style ≡ 0 → ⊥) → pairs style m n ≡ min m n
 unfolding pairs
-pairs-shorter style m n h = rw (ne-eqb style 0 h)
+pairs-unpadded style m n h = rw (ne-eqb style 0 h)
 
 pairs-equal-length : (style m n : ℕ) → m ≡ n → pairs style m n ≡ min m n
 unfolding pairs
@@ -86,7 +86,7 @@ inside-before s a b code style t e =
 pub unchanged : Unchanged
 unchanged =
     record {
-      unpadded = λ s a b code style t h. inside-before s a b code style t (pairs-shorter style (length (textOf s a)) (length (textOf s b)) h);
+      unpadded = λ s a b code style t h. inside-before s a b code style t (pairs-unpadded style (length (textOf s a)) (length (textOf s b)) h);
       untranslated = λ s a b code style.
           rule-before s a b code style (pos 0)
           (comparison-before (textOf s a) (textOf s b) (pos 0) code style (λ j l. untranslated-before (textOf s a) (textOf s b) j));

@@ -137,7 +137,8 @@ fn printed_examples() {
     assert_eq!(compared(b"abcde", b"abc", 4, 2, 0), (false, 1, 0)); // L
 }
 
-/// The request's examples: the manual's calls 1300 and 1400, each the other way round too, and string 2 past string 1's end.
+/// The request's examples: the manual's calls 1300 and 1400, each the other way round too; and string 2 past string 1's
+/// end.
 #[test]
 fn the_translation_ends_with_the_shorter_string() {
     assert_eq!(compared(b"ABCD0", b"1234 ", 0, 0, 16), (true, 0, 0)); // a real blank

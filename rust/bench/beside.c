@@ -1,5 +1,5 @@
 /* With JOBS defined: the calls that are timed, of one library. Without: the run that times two libraries, and C, in
- * turns, after it has seen that all leave the same bytes and give the same answer. */
+ * turns, after it has seen that all leave the same bytes and that comparisons split at the same place. */
 #include <stdint.h>
 #include <string.h>
 
@@ -57,7 +57,7 @@ int JOBS(uint8_t *store, int job, size_t n)
 int old(uint8_t *store, int job, size_t n);
 int new(uint8_t *store, int job, size_t n);
 
-static uint8_t peer[STORE]; /* what memcmp compares string 1 with */
+static uint8_t peer[STORE]; /* what memcmp compares with */
 
 /* The same bytes moved or compared, and nothing checked. */
 static int c(uint8_t *store, int job, size_t n)
@@ -110,7 +110,7 @@ static void fill(uint8_t *store, int job)
         store[SECOND] = peer[0] = '!';
 }
 
-/* Whether all three leave the same bytes and give the same answer. */
+/* Whether all three leave the same bytes and split at the same place. */
 static int alike(uint8_t *store, int job, size_t n)
 {
     static uint8_t first[STORE];
@@ -171,7 +171,7 @@ int main(int argc, char **argv)
         size_t calls = jobs[j].n < 1000 ? 1 + 63 / lengths : 8;
         for (size_t n = jobs[j].n; n <= jobs[j].to; n++)
             if (!alike(store, jobs[j].job, n)) {
-                fprintf(stderr, "beside: %s: refused, or another answer, or other bytes\n", jobs[j].name);
+                fprintf(stderr, "beside: %s: refused, or another split, or other bytes\n", jobs[j].name);
                 return 1;
             }
         for (int round = 0; round < 1000; round++)

@@ -4,7 +4,6 @@ use mathlib.Core.Path.{_≡_, refl, sym, _∙_}
 use mathlib.Core.Bool.{Bool, true, false, cond}
 use mathlib.Core.List.{List}
 use Prim.Native.Nat.{ℕ, _+_, _-_, _≤_, _<_, min, max}
-use native.Mathlib.Nat.{zero-add}
 use native.Mathlib.Omega.{arith}
 use lib.Dec.{eqb, ltb}
 use lib.IntN.{ℤ, pos, _+ℤ_}
@@ -21,7 +20,7 @@ use Rattle.compare.specs.Inner.{Paired, Ended, tailDecision}
 use Rattle.compare.specs.declared.Decision.{Decision}
 use Rattle.compare.proofs.Extending.{extent, pairs-unpadded}
 use Rattle.compare.proofs.Ordering.{order-plain}
-use Rattle.compare.proofs.Pairing.{FirstFrom, first-from, unequal-is, inside-is, padded-in, padded-past}
+use Rattle.compare.proofs.Pairing.{FirstFrom, first-from, first-of, unequal-is, inside-is, padded-in, padded-past}
 use Rattle.compare.proofs.Tailing.{past-any, zero-translates}
 
 pub order-lengths : (m n q r : ℕ) → q ≡ cond (ltb n m) 2 1 → r ≡ cond (ltb m n) 0 q → r ≡ orderN m n
@@ -97,7 +96,7 @@ module _ (xs ys : List ℕ) (style n d : ℕ) (t t′ : ℤ) (p : Ended xs ys n)
   by m e em ee = rw (← et, ← em, ← ee)
 
   whole : FirstFrom xs ys t 0 n d
-  whole = rw (← ed, zero-add) at (first-from xs ys t 0 n)
+  whole = rw (← ed) at (first-of xs ys t n)
 
   pub by-pair : (o : ℕ) → d < n → o ≡ orderZ (pos (getD xs d 0)) (pos (getD ys d 0) +ℤ t) → record { order = o; split = d + 1 } ≡ decision xs ys style t′
   unfolding decided
@@ -116,34 +115,34 @@ module _ (xs ys : List ℕ) (style n d : ℕ) (t t′ : ℤ) (p : Ended xs ys n)
     longer : ℕ
     longer = max (length xs) (length ys)
 
-    tail : ℕ
-    tail = unequalFrom xs ys (pos 0) n (longer - n)
+    tail-at : ℕ
+    tail-at = unequalFrom xs ys (pos 0) n (longer - n)
 
-    in-tail : FirstFrom xs ys (pos 0) n longer tail
-    unfolding tail longer
+    in-tail : FirstFrom xs ys (pos 0) n longer tail-at
+    unfolding tail-at longer
     in-tail = let k : n + (max (length xs) (length ys) - n) ≡ max (length xs) (length ys) = omega (arith, p .shorter) in rw k at (first-from xs ys (pos 0) n (max (length xs) (length ys) - n))
 
-    in-all : tail ≡ unequalFrom xs ys t 0 longer
+    in-all : tail-at ≡ unequalFrom xs ys t 0 longer
     in-all =
-        unequal-is xs ys t 0 longer tail
+        unequal-is xs ys t 0 longer tail-at
         (record {
           from = omega arith;
           within = omega (arith, in-tail .within);
           equal = λ j k l. either n j (λ m. past-any xs ys n p t (pos 0) j m ∙ in-tail .equal j m l) (λ m. all-equal j m);
-          unequal = λ l o. in-tail .unequal (omega arith) (past-any xs ys n p (pos 0) t tail (in-tail .from) ∙ o);
+          unequal = λ l o. in-tail .unequal (omega arith) (past-any xs ys n p (pos 0) t tail-at (in-tail .from) ∙ o);
         })
 
-    tail-decides : decided xs ys style (pos 0) longer tail ≡ decided xs ys style t longer tail
+    tail-decides : decided xs ys style (pos 0) longer tail-at ≡ decided xs ys style t longer tail-at
     unfolding decided
-    tail-decides = bool-case (ltb tail longer) (λ e. rw (e, past-any xs ys n p (pos 0) t tail (in-tail .from))) (λ e. rw e)
+    tail-decides = bool-case (ltb tail-at longer) (λ e. rw (e, past-any xs ys n p (pos 0) t tail-at (in-tail .from))) (λ e. rw e)
 
     padded : style ≡ 0 → longer ≡ pairs style (length xs) (length ys)
     unfolding pairs longer
     padded s = rw (eq-eqb style 0 s)
 
     pub by-tail : (r : Decision) → style ≡ 0 → r ≡ tailDecision xs ys → r ≡ decision xs ys style t′
-    unfolding tail longer
-    by-tail r s er = rw s (er ∙ sym (tail-by xs ys n tail p refl) ∙ (rw s at (tail-decides ∙ by longer tail (padded s) in-all)))
+    unfolding tail-at longer
+    by-tail r s er = rw s (er ∙ sym (tail-by xs ys n tail-at p refl) ∙ (rw s at (tail-decides ∙ by longer tail-at (padded s) in-all)))
 
     unpadded : (style ≡ 0 → ⊥) → n ≡ pairs style (length xs) (length ys)
     unpadded s = p .shorter ∙ sym (pairs-unpadded style (length xs) (length ys) s)

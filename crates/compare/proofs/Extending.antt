@@ -15,7 +15,7 @@ use Rattle.compare.specs.Order.{orderZ}
 use Rattle.compare.specs.Compare.{pairs, lengthDecides, translated, orderAt, unequalFrom, decided, decision, comparison, compareRule}
 use Rattle.compare.specs.Extent.{Extent, orderBefore, unequalBefore, decidedBefore, decisionBefore, comparisonBefore, ruleBefore, Unchanged, Turned}
 use Rattle.compare.specs.declared.Decision.{Decision}
-use Rattle.compare.proofs.Ordering.{eqb-same, order-plain, order-turned, plain-turned, lengths-turned}
+use Rattle.compare.proofs.Ordering.{eqb-same, order-plain, order-turned, plain-turned, naturals-turned}
 
 pub extent : Extent
 unfolding orderAt translated
@@ -125,7 +125,7 @@ module _ (xs ys : List ℕ) (t : ℤ) where
   unfolding decided opposite
   decided-turned style n d =
       bool-case (ltb d n) (λ e. rw (e, at-turned d))
-      (λ e. rw (e, lengths-decide-turned style (length xs) (length ys)) (bool-case (lengthDecides style (length xs) (length ys)) (λ f. rw (f, lengths-turned (length xs) (length ys))) (λ f. rw f)))
+      (λ e. rw (e, lengths-decide-turned style (length xs) (length ys)) (bool-case (lengthDecides style (length xs) (length ys)) (λ f. rw (f, naturals-turned (length xs) (length ys))) (λ f. rw f)))
 
 pub turned-round : Turned
 unfolding decision opposite

@@ -1,5 +1,5 @@
--- Laws of the order of two numbers, 0 less, 1 equal, 2 greater; a sum with a translation goes to naturals. Assumes
--- nothing.
+-- Laws of the order of two numbers, 0 less, 1 equal, 2 greater; that of a number and a sum is one of two naturals.
+-- Assumes nothing.
 use mathlib.Core.Path.{_≡_, refl, sym, _∙_}
 use mathlib.Core.Bool.{Bool, true, false, cond}
 use Prim.Native.Nat.{ℕ, zero, suc, _+_, _-_, _≤_, _<_}
@@ -38,8 +38,8 @@ alike : (m n k l : ℕ) → (m < n → k < l) → (m ≡ n → k ≡ l) → (n <
 alike m n k l f g h =
     by-order m n (λ a. less m n a ∙ sym (less k l (f a))) (λ a. same m n a ∙ sym (same k l (g a))) (λ a. more m n a ∙ sym (more k l (h a)))
 
-pub lengths-turned : (m n : ℕ) → orderN n m ≡ 2 - orderN m n
-lengths-turned m n =
+pub naturals-turned : (m n : ℕ) → orderN n m ≡ 2 - orderN m n
+naturals-turned m n =
     by-order m n (λ a. more n m a ∙ rw (less m n a)) (λ a. same n m (sym a) ∙ rw (same m n a)) (λ a. less n m a ∙ rw (more m n a))
 
 one-same : (m n : ℕ) → eqb (orderN m n) 1 ≡ eqb m n
@@ -68,16 +68,16 @@ down a b k = go (ltb b (suc k)) refl
 
 -- the numbers changed over and the translation negated
 pub order-turned : (a b : ℕ) (t : ℤ) → orderZ (pos b) (pos a +ℤ negℤ t) ≡ 2 - orderZ (pos a) (pos b +ℤ t)
-order-turned a b (pos zero) = up b a 0 ∙ alike b (a + 0) (b + 0) a (λ h. omega arith) (λ h. omega arith) (λ h. omega arith) ∙ lengths-turned a (b + 0) ∙ rw (up a b 0)
-order-turned a b (pos (suc k)) = down b a k ∙ lengths-turned a (b + suc k) ∙ rw (up a b (suc k))
-order-turned a b (negsuc k) = up b a (suc k) ∙ lengths-turned (a + suc k) b ∙ rw (down a b k)
+order-turned a b (pos zero) = up b a 0 ∙ alike b (a + 0) (b + 0) a (λ h. omega arith) (λ h. omega arith) (λ h. omega arith) ∙ naturals-turned a (b + 0) ∙ rw (up a b 0)
+order-turned a b (pos (suc k)) = down b a k ∙ naturals-turned a (b + suc k) ∙ rw (up a b (suc k))
+order-turned a b (negsuc k) = up b a (suc k) ∙ naturals-turned (a + suc k) b ∙ rw (down a b k)
 
 -- numbers without a translation
 pub order-plain : (a b : ℕ) → orderZ (pos a) (pos b) ≡ orderZ (pos a) (pos b +ℤ pos 0)
 order-plain a b = plain a b ∙ (let e : b ≡ b + 0 = omega arith in rw (← e) (sym (plain a b)))
 
 pub plain-turned : (a b : ℕ) → orderZ (pos b) (pos a) ≡ 2 - orderZ (pos a) (pos b)
-plain-turned a b = plain b a ∙ lengths-turned a b ∙ rw (plain a b)
+plain-turned a b = plain b a ∙ naturals-turned a b ∙ rw (plain a b)
 
 pub equal-plain : (a b : ℕ) → orderZ (pos a) (pos b) ≡ 1 → a ≡ b
 equal-plain a b e = eqb-true a b (sym (one-same a b) ∙ eq-eqb _ 1 (sym (plain a b) ∙ e))

@@ -60,9 +60,13 @@ module _ (xs ys : List ℕ) (t : ℤ) where
       under : e < d → d ≡ e
       under h = absurd (g .unequal (omega (arith, f .within)) (f .equal e (g .from) h))
 
+-- from the front
+pub first-of : (xs ys : List ℕ) (t : ℤ) (n : ℕ) → FirstFrom xs ys t 0 n (unequalFrom xs ys t 0 n)
+first-of xs ys t n = rw zero-add at (first-from xs ys t 0 n)
+
 pub first-unequal-is : SplitsFirst
 first-unequal-is xs ys t n =
-    let f = rw zero-add at (first-from xs ys t 0 n) in record { within = f .within; equal = λ i. f .equal i (omega arith); unequal = f .unequal }
+    let f = first-of xs ys t n in record { within = f .within; equal = λ i. f .equal i (omega arith); unequal = f .unequal }
 
 -- ---- the code's pair
 
@@ -112,61 +116,64 @@ module _ (xs ys : List ℕ) (t : ℤ) where
 
 -- ---- block by block
 
-pub within-n : (xs ys : List ℕ) (t : ℤ) (n i : ℕ) → i ≤ unequalFrom xs ys t 0 n → i ≤ n
-within-n xs ys t n i h = omega (arith, first-unequal-is xs ys t n .within)
+pub still-within : (xs ys : List ℕ) (t : ℤ) (n i : ℕ) → i ≤ unequalFrom xs ys t 0 n → i ≤ n
+still-within xs ys t n i h = omega (arith, first-of xs ys t n .within)
 
-pub n-within : (xs ys : List ℕ) (t : ℤ) (n k : ℕ) → n < k → unequalFrom xs ys t 0 n < k
-n-within xs ys t n k h = omega (arith, first-unequal-is xs ys t n .within)
+pub none-left : (xs ys : List ℕ) (t : ℤ) (n k : ℕ) → n < k → unequalFrom xs ys t 0 n < k
+none-left xs ys t n k h = omega (arith, first-of xs ys t n .within)
 
--- a block as the code cuts it out
-abbrev cut : List ℕ → ℕ → ℕ → List ℕ
-cut xs i w = take (i + w - i) (drop i xs)
+-- the characters from index i up to e, as the code cuts them out
+abbrev pub cut : List ℕ → ℕ → ℕ → List ℕ
+cut xs i e = take (e - i) (drop i xs)
 
-cut-length : (xs : List ℕ) (i w n : ℕ) → i + w ≤ n → n ≤ length xs → length (cut xs i w) ≡ w
-cut-length xs i w n h k = simp (length-take, length-drop) (omega arith)
+pub cut-length : (xs : List ℕ) (i e : ℕ) → e ≤ length xs → length (cut xs i e) ≡ e - i
+cut-length xs i e h = simp (length-take, length-drop) (omega arith)
 
-cut-at : (xs : List ℕ) (i w j d : ℕ) → j < w → getD (cut xs i w) j d ≡ getD xs (i + j) d
-cut-at xs i w j d h = getD-take (i + w - i) (drop i xs) j d (omega arith) ∙ getD-drop i xs j d
+pub cut-at : (xs : List ℕ) (i e j d : ℕ) → i + j < e → getD (cut xs i e) j d ≡ getD xs (i + j) d
+cut-at xs i e j d h = getD-take (e - i) (drop i xs) j d (omega arith) ∙ getD-drop i xs j d
 
 module _ (xs ys : List ℕ) (t : ℤ) (n i w : ℕ) (p : Paired xs ys n) (l : i ≤ unequalFrom xs ys t 0 n) (h : w ≤ n - i) where
   whole : FirstFrom xs ys t 0 n (unequalFrom xs ys t 0 n)
-  whole = rw zero-add at (first-from xs ys t 0 n)
+  whole = first-of xs ys t n
 
   end : i + w ≤ n
   end = omega (arith, whole .within)
 
-  x-length : length (cut xs i w) ≡ w
-  x-length = cut-length xs i w n end (p .within-1)
+  width : i + w - i ≡ w
+  width = omega arith
 
-  y-length : length (cut ys i w) ≡ w
-  y-length = cut-length ys i w n end (p .within-2)
+  x-length : length (cut xs i (i + w)) ≡ w
+  x-length = cut-length xs i (i + w) (omega (arith, end, p .within-1)) ∙ width
 
-  pub cut-paired : Paired (cut xs i w) (cut ys i w) (length (cut xs i w))
+  y-length : length (cut ys i (i + w)) ≡ w
+  y-length = cut-length ys i (i + w) (omega (arith, end, p .within-2)) ∙ width
+
+  pub cut-paired : Paired (cut xs i (i + w)) (cut ys i (i + w)) (length (cut xs i (i + w)))
   cut-paired =
       record {
         within-1 = omega arith;
         within-2 = omega (arith, x-length, y-length);
-        character-1 = λ j k. let m : j < w = omega (arith, x-length) in rw (cut-at xs i w j 0 m) (p .character-1 (i + j) (omega (arith, end)));
-        character-2 = λ j k. let m : j < w = omega (arith, x-length) in rw (cut-at ys i w j 0 m) (p .character-2 (i + j) (omega (arith, end)));
+        character-1 = λ j k. let m : j < w = omega (arith, x-length) in rw (cut-at xs i (i + w) j 0 (omega arith)) (p .character-1 (i + j) (omega (arith, end)));
+        character-2 = λ j k. let m : j < w = omega (arith, x-length) in rw (cut-at ys i (i + w) j 0 (omega arith)) (p .character-2 (i + j) (omega (arith, end)));
       }
 
-  cut-order : (j : ℕ) → j < w → orderAt (cut xs i w) (cut ys i w) t j ≡ orderAt xs ys t (i + j)
+  cut-order : (j : ℕ) → j < w → orderAt (cut xs i (i + w)) (cut ys i (i + w)) t j ≡ orderAt xs ys t (i + j)
   cut-order j k =
-      extent .inside (cut xs i w) (cut ys i w) t j (omega (arith, x-length)) (omega (arith, y-length))
-      ∙ rw (cut-at xs i w j 32 k, cut-at ys i w j 32 k) (sym (extent .inside xs ys t (i + j) (omega (arith, p .within-1, end)) (omega (arith, p .within-2, end))))
+      extent .inside (cut xs i (i + w)) (cut ys i (i + w)) t j (omega (arith, x-length)) (omega (arith, y-length))
+      ∙ rw (cut-at xs i (i + w) j 32 (omega arith), cut-at ys i (i + w) j 32 (omega arith)) (sym (extent .inside xs ys t (i + j) (omega (arith, p .within-1, end)) (omega (arith, p .within-2, end))))
 
   -- the first unequal pair of the block alone
-  alone : FirstFrom (cut xs i w) (cut ys i w) t 0 w (unequalFrom (cut xs i w) (cut ys i w) t 0 w)
-  alone = rw zero-add at (first-from (cut xs i w) (cut ys i w) t 0 w)
+  alone : FirstFrom (cut xs i (i + w)) (cut ys i (i + w)) t 0 w (unequalFrom (cut xs i (i + w)) (cut ys i (i + w)) t 0 w)
+  alone = first-of (cut xs i (i + w)) (cut ys i (i + w)) t w
 
-  module _ (b : Bool) (e : b ≡ eqb (unequalFrom (cut xs i w) (cut ys i w) t 0 (length (cut xs i w))) (length (cut xs i w))) where
-    e′ : b ≡ eqb (unequalFrom (cut xs i w) (cut ys i w) t 0 w) w
+  module _ (b : Bool) (e : b ≡ eqb (unequalFrom (cut xs i (i + w)) (cut ys i (i + w)) t 0 (length (cut xs i (i + w)))) (length (cut xs i (i + w)))) where
+    e′ : b ≡ eqb (unequalFrom (cut xs i (i + w)) (cut ys i (i + w)) t 0 w) w
     e′ = rw x-length at e
 
     pub block-passed : b ≡ true → i + w ≤ unequalFrom xs ys t 0 n
     block-passed q =
         let u : ℕ = unequalFrom xs ys t 0 n in
-        let v : unequalFrom (cut xs i w) (cut ys i w) t 0 w ≡ w = eqb-true _ w (sym e′ ∙ q) in
+        let v : unequalFrom (cut xs i (i + w)) (cut ys i (i + w)) t 0 w ≡ w = eqb-true _ w (sym e′ ∙ q) in
         either (i + w) u (λ k. k)
         (λ k.
         let m : u - i < w = omega arith in
@@ -177,7 +184,7 @@ module _ (xs ys : List ℕ) (t : ℤ) (n i w : ℕ) (p : Paired xs ys n) (l : i 
     pub block-stopped : b ≡ false → unequalFrom xs ys t 0 n < i + w
     block-stopped q =
         let u : ℕ = unequalFrom xs ys t 0 n in
-        let v : ℕ = unequalFrom (cut xs i w) (cut ys i w) t 0 w in
+        let v : ℕ = unequalFrom (cut xs i (i + w)) (cut ys i (i + w)) t 0 w in
         let m : v < w = either w v (λ k. absurd (eqb-false v w (sym e′ ∙ q) (omega (arith, alone .within)))) (λ k. k) in
         either (i + w) u (λ k. absurd (alone .unequal m (cut-order v m ∙ whole .equal (i + v) (omega arith) (omega arith)))) (λ k. k)
 
@@ -185,4 +192,4 @@ module _ (xs ys : List ℕ) (t : ℤ) (n i w : ℕ) (p : Paired xs ys n) (l : i 
 pub all-passed : (xs ys : List ℕ) (t t′ t″ : ℤ) (n r : ℕ) → (r ≤ unequalFrom xs ys t 0 n) × (unequalFrom xs ys t 0 n < r + 1) → t ≡ t′ → t′ ≡ t″ → r ≡ unequalFrom xs ys t″ 0 n
 all-passed xs ys t t′ t″ n r h e f = rw (← f, ← e) (omega arith)
 
-pub ruleset pairing-laws = (needs, within-n, block-start, block-end, all-passed)
+pub ruleset pairing-laws = (needs, still-within, block-start, block-end, all-passed)

@@ -1,5 +1,5 @@
 -- Laws of whole numbers: a character and a translation in range, summed as the machine does it, are the sum of the
--- definition. Assumes nothing.
+-- definition; a translation as a byte, 128 more. Assumes nothing.
 use mathlib.Core.Path.{_≡_, refl, _∙_}
 use mathlib.Core.Bool.{Bool, true, false, cond, and-true}
 use Prim.Native.Nat.{ℕ, suc, _+_, _-_, _≤_, _<_}

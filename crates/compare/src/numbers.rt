@@ -1,4 +1,4 @@
-// What a comparison asks of numbers and of single characters.
+// What a comparison asks of numbers.
 use strlib::StrPtr;
 ghost use mathlib.Core.Path.{_≡_};
 ghost use mathlib.Core.Bool.{cond};

@@ -12,7 +12,7 @@ ghost use Rattle.compare.specs.Compare.{translates, unequalFrom};
 ghost use Rattle.compare.specs.Inner.{Paired, Ended};
 
 // A translation as a byte, 128 more.
-fn raised(t: i64) -> u8
+fn raise(t: i64) -> u8
     requires { ⌜ translates t ≡ true ⌝ }
     ensures { λ r. ⌜ subℕ r 128 ≡ t ⌝ }
 {
@@ -63,7 +63,7 @@ pub(super) fn by_blocks(x: &[u8], y: &[u8], t: i64, n: usize) -> usize
     requires { ⌜ (translates t ≡ true) × Paired (now x) (now y) n ⌝ }
     ensures { λ r. ⌜ r ≡ unequalFrom (now (x .entry)) (now (y .entry)) t 0 n ⌝ }
 {
-    let raised = raised(t);
+    let raised = raise(t);
     let i = pass_blocks(x, y, raised, n, 0, 64);
     let i = pass_blocks(x, y, raised, n, i, 16);
     let i = pass_blocks(x, y, raised, n, i, 4);

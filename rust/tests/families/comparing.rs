@@ -137,8 +137,8 @@ fn printed_examples() {
     assert_eq!(compared(b"abcde", b"abc", 4, 2, 0), (false, 1, 0)); // L
 }
 
-/// The request's examples: the manual's calls 1300 and 1400, each the other way round too; and string 2 past string 1's
-/// end.
+/// The request's examples, the manual's calls 1300 and 1400, each the other way round too; and more of string 2's pad and
+/// of string 2 past string 1's end.
 #[test]
 fn the_translation_ends_with_the_shorter_string() {
     assert_eq!(compared(b"ABCD0", b"1234 ", 0, 0, 16), (true, 0, 0)); // a real blank
@@ -173,12 +173,12 @@ fn a_translation_out_of_range_is_refused() {
     }
 }
 
-/// Every length about those of the blocks: equal texts, and texts with one unequal pair at each place, and each tail of
+/// Every length up to two of the longest blocks and more: equal texts, and texts with one unequal pair at each place, and each tail of
 /// blanks with one other character at each place, either string the longer one.
 #[test]
 fn every_length_and_every_place() {
     for by in [0, 5, -5] {
-        for length in 0..=70 {
+        for length in 0..=150 {
             let one: Vec<u8> = (0..length).map(|i| 40 + (i * 7 % 80) as u8).collect();
             let two: Vec<u8> = one.iter().map(|c| (*c as i64 - by) as u8).collect();
             assert_eq!(compared(&one, &two, 0, 0, by), (true, 0, 0));
@@ -194,7 +194,7 @@ fn every_length_and_every_place() {
         for front in [0, 1, 2, 17] {
             let one = vec![b'x'; front];
             let two = vec![(b'x' as i64 - by) as u8; front];
-            for tail in 1..=70 {
+            for tail in 1..=150 {
                 let mut longer = one.clone();
                 longer.resize(front + tail, b' ');
                 assert_eq!(compared(&longer, &two, 0, 0, by), (true, 1, 0));

@@ -19,8 +19,8 @@ Inv-loop x y raised equal₀ i₀ equal i =
 abbrev μ-loop : tie.MeasureT-loop
 μ-loop x y raised equal₀ i₀ equal i = length x - i
 
-characters : tie.Need-is-equal-requires Inv-loop μ-loop
-characters c κs =
+are-characters : tie.Need-is-equal-requires Inv-loop μ-loop
+are-characters c κs =
     let pair = c .before .before .before .before .before .before .pre in
     let i = c .before .before .before .loop .i in
     (pair .character-1 i (search needs), pair .character-2 i (search needs))
@@ -40,7 +40,7 @@ are-equal-spec =
     (λ c. search pairing-laws)
     (λ c. search pairing-laws)
     (λ c. search pairing-laws)
-    characters
+    are-characters
     (λ c κs. tt)
     (λ c. search pairing-laws)
     (λ c. search needs)

@@ -1,5 +1,5 @@
 use borrow.Author.Needs.{needs}
-use Rattle.compare.proofs.Tailing.{tailing-laws}
+use Rattle.compare.proofs.Tailing.{blanks-no, tailing-laws}
 use Rattle.compare.proofs.pairs.blanks_end.Statement.{statement}
 use Rattle.compare.proofs.pairs.blanks_end.Tie as tie
 
@@ -9,7 +9,7 @@ blanks-end-spec =
     (tie.spec
     (λ c. search tailing-laws)
     (λ c. search needs)
-    (λ c. search tailing-laws)
+    (λ c. let a = c .before .before .before .before .args in blanks-no (a .z .now) (a .i) (search needs) (λ e. search needs))
     (λ c. search needs)
     (λ c. search needs)
     (λ c. search needs)

@@ -3,7 +3,7 @@ use borrow.Author.Tests.{not-true, not-false}
 use Prim.Native.Nat.{_≤_, _-_}
 use lib.IntN.{subℕ}
 use Rattle.compare.specs.Compare.{unequalFrom}
-use Rattle.compare.proofs.Pairing.{cut-paired, block-passed, block-stopped, n-within, pairing-laws}
+use Rattle.compare.proofs.Pairing.{cut-paired, block-passed, block-stopped, none-left, pairing-laws}
 use Rattle.compare.proofs.pairs.pass_blocks.Statement.{statement}
 use Rattle.compare.proofs.pairs.pass_blocks.Tie as tie
 
@@ -50,4 +50,4 @@ pass-blocks-spec =
     stops
     (λ c. search needs)
     passes
-    (λ c. (search needs, n-within _ _ _ _ _ (search needs))))
+    (λ c. (search needs, none-left _ _ _ _ _ (search needs))))

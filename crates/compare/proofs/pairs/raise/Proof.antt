@@ -1,9 +1,9 @@
 use Rattle.compare.proofs.Whole.{raised-byte, whole-laws}
-use Rattle.compare.proofs.pairs.raised.Statement.{statement}
-use Rattle.compare.proofs.pairs.raised.Tie as tie
+use Rattle.compare.proofs.pairs.raise.Statement.{statement}
+use Rattle.compare.proofs.pairs.raise.Tie as tie
 
-pub raised-spec : {M : Type 1} → statement M
-raised-spec =
+pub raise-spec : {M : Type 1} → statement M
+raise-spec =
     tie.close
     (tie.spec
     (λ c. search whole-laws)

@@ -6,7 +6,8 @@ use crate::support::rng::Rng;
 use crate::support::{raw, rounds, shapes, Call, ROUNDS};
 use strlib::{compare, ffi, Comparison, Refusal, StrPtr};
 
-/// Two strings that are alike: string 2 is string 1 with the translation taken off, then changed a little at its end or inside.
+/// Two strings that are alike: string 2 is string 1 with the translation taken off, then changed a little at its end or
+/// inside.
 fn alike(rng: &mut Rng, translation: i64) -> (Vec<u8>, StrPtr, StrPtr) {
     let length = match rng.below(4) {
         0 => rng.up_to(100),
@@ -137,8 +138,8 @@ fn printed_examples() {
     assert_eq!(compared(b"abcde", b"abc", 4, 2, 0), (false, 1, 0)); // L
 }
 
-/// The request's examples, the manual's calls 1300 and 1400, each the other way round too; and more of string 2's pad and
-/// of string 2 past string 1's end.
+/// The request's examples, the manual's calls 1300 and 1400, each the other way round too; and more of string 2's pad
+/// and of string 2 past string 1's end.
 #[test]
 fn the_translation_ends_with_the_shorter_string() {
     assert_eq!(compared(b"ABCD0", b"1234 ", 0, 0, 16), (true, 0, 0)); // a real blank
@@ -173,8 +174,8 @@ fn a_translation_out_of_range_is_refused() {
     }
 }
 
-/// Every length up to two of the longest blocks and more: equal texts, and texts with one unequal pair at each place, and each tail of
-/// blanks with one other character at each place, either string the longer one.
+/// Every length up to two of the longest blocks and more: equal texts, and texts with one unequal pair at each place;
+/// and each tail of blanks with one other character at each place, either string the longer one.
 #[test]
 fn every_length_and_every_place() {
     for by in [0, 5, -5] {

@@ -2,9 +2,9 @@
  *
  * Every call takes any bytes, string pointers and numbers and checks them itself. A refusal gives its number (README.md has
  * the table), 0 being none, and changes nothing that was lent. On a refusal all other fields of the answer are 0, down
- * to those of a pointer or place in it, but for what strlib_burst's answer carries: that is what was given (see
- * strlib_burst_answer). Nothing found is no refusal; then too all fields are 0, `found` with them, but for the number
- * read in a strlib_note and for what a burst's run carries on.
+ * to those of a pointer or place in it, but for three: what strlib_burst's answer carries, which is what was given (see
+ * strlib_burst_answer), a cue line's `word` and a label list's `offset`. Nothing found is no refusal; then too all
+ * fields are 0, `found` with them, but for the number read in a strlib_note and for what a burst's run carries on.
  *
  * Memory is lent as a pointer and a number of elements; with the number 0 the pointer may be NULL. What is lent to be
  * written (a pointer without const) shares no byte with anything else lent to the same call. Each call is proved to
@@ -91,13 +91,17 @@ typedef struct { uint8_t refusal; bool found; uint8_t code; size_t position; } s
 
 typedef struct { uint8_t refusal; int64_t value; } strlib_number;
 
-typedef struct { uint8_t refusal; size_t microphone, loudspeaker; int64_t gain; } strlib_cue;
+/* `word` comes with refusal 11 and is 0 else: 0 for a line over 80 characters, else the number of the first wrong or
+ * missing fixed word or missing number, the words counted from 1 by their places, else 8 if there is an eighth word */
+typedef struct { uint8_t refusal; uint8_t word; size_t microphone, loudspeaker; int64_t gain; } strlib_cue;
 
-typedef struct { uint8_t refusal; size_t value; } strlib_size;
+/* `offset` comes with every refusal of a label list and is 0 else: where the faulty record's kind byte lies (from 0), or
+ * the list's length where no record in the list is at fault; for strlib_add_label that is the length it was told */
+typedef struct { uint8_t refusal; size_t offset; size_t value; } strlib_size;
 
 /* a lookup in the label list; where found: the trimmed name's place in it (from 0) and its length, 0 for a blank name;
  * no record: both 0 */
-typedef struct { uint8_t refusal; bool found; size_t place, length; } strlib_name;
+typedef struct { uint8_t refusal; bool found; size_t offset; size_t place, length; } strlib_name;
 
 /* ---- pointers */
 
@@ -195,22 +199,21 @@ strlib_string strlib_write_number(uint8_t *store, size_t store_length, strlib_pt
 /* ---- the desk */
 
 /* `MIC n TO LSP m GAIN g`, for a matrix of 1 to 64 by 1 to 128: refusals 3 (a line over 65,536 bytes, the sizes), 2,
- * 11, then 7 or 8 from left to right, 12 */
+ * 11 with a word, then 7 or 8 from left to right, 12 */
 strlib_cue strlib_read_cue(const uint8_t *line, size_t line_length, size_t microphones, size_t loudspeakers);
 
-/* how many records: refusals, record by record, 11 (kind, short body), 12, 2, 11 (repeated) */
+/* how many records: refusals, record by record, 11 (kind), 13 (body cut short), 12, 2, 14 (kind and number repeated) */
 strlib_size strlib_read_labels(const uint8_t *list, size_t list_length);
 
-/* kind 1 microphone, 2 loudspeaker, one byte, so that C cuts a greater number down before the call sees it: the list's
- * refusals, then 11 (kind), 12 */
-strlib_name strlib_find_label(const uint8_t *list, size_t list_length, uint8_t kind, size_t number);
+/* kind 1 microphone, 2 loudspeaker; every other number is refused, 257 too: the list's refusals, then 11 (kind), 12 */
+strlib_name strlib_find_label(const uint8_t *list, size_t list_length, size_t kind, size_t number);
 
 /* the same as a part: on a refusal or no record the empty part at the front */
-strlib_part strlib_label_name(const uint8_t *list, size_t list_length, uint8_t kind, size_t number);
+strlib_part strlib_label_name(const uint8_t *list, size_t list_length, size_t kind, size_t number);
 
 /* adds a record behind the list that is the buffer's first `length` bytes; the value is the list's new length.
- * Refusals: 4 (length over the buffer's), the list's, 11 (kind), 12, 4 (name over 16), 2, 11 (repeated), 6 */
-strlib_size strlib_add_label(uint8_t *buffer, size_t buffer_length, size_t length, uint8_t kind, size_t number, const uint8_t *name,
+ * Refusals: 4 (length over the buffer's), the list's, 11 (kind), 12, 4 (name over 16), 2, 14 (repeated), 6 */
+strlib_size strlib_add_label(uint8_t *buffer, size_t buffer_length, size_t length, size_t kind, size_t number, const uint8_t *name,
                              size_t name_length);
 
 #ifdef __cplusplus

@@ -95,9 +95,11 @@ static void character(const char *call, strlib_character a) {
 }
 static void number(const char *call, strlib_number a) { printf(REFUSAL ", %" PRId64 "\n", call, a.refusal, a.value); }
 static void cue(const char *call, strlib_cue a) {
-    printf(REFUSAL ", %zu, %zu, %" PRId64 "\n", call, a.refusal, a.microphone, a.loudspeaker, a.gain);
+    printf(REFUSAL ", word %d, %zu, %zu, %" PRId64 "\n", call, a.refusal, a.word, a.microphone, a.loudspeaker, a.gain);
 }
-static void size(const char *call, strlib_size a) { printf(REFUSAL ", value %zu", call, a.refusal, a.value); }
+static void size(const char *call, strlib_size a) {
+    printf(REFUSAL ", offset %zu, value %zu", call, a.refusal, a.offset, a.value);
+}
 static void records(const char *call, strlib_size a) {
     size(call, a);
     puts("");
@@ -107,7 +109,7 @@ static void added(const char *call, strlib_size a) {
     lent();
 }
 static void name(const char *call, strlib_name a) {
-    printf(REFUSAL ", found %d, place %zu, length %zu\n", call, a.refusal, a.found, a.place, a.length);
+    printf(REFUSAL ", found %d, offset %zu, place %zu, length %zu\n", call, a.refusal, a.found, a.offset, a.place, a.length);
 }
 
 #endif

@@ -333,6 +333,9 @@ static void desk(void) {
     cue(CALL(strlib_read_cue(LENT("MIC 7 TO LSP 31 GAIN -120"), 64, 128)));
     cue(CALL(strlib_read_cue(LENT("MIC 65 TO LSP 1 GAIN 0"), 64, 128)));
     cue(CALL(strlib_read_cue(LENT("MIC 7 TO LSP"), 64, 128)));
+    cue(CALL(strlib_read_cue(LENT("MIC TO LSP 3 GAIN 0"), 64, 128)));
+    cue(CALL(strlib_read_cue(LENT("MIC 7 TO LSP 31 GAIN 0 0"), 64, 128)));
+    cue(CALL(strlib_read_cue((const uint8_t[81]){0}, 81, 64, 128)));
     cue(CALL(strlib_read_cue(LENT("MIC 7 TO LSP 31 GAIN -120"), 7, 31)));
     cue(CALL(strlib_read_cue(LENT("MIC 7 TO LSP 31 GAIN -120"), 31, 7)));
     cue(CALL(strlib_read_cue(LENT("MIC 7 TO LSP 31 GAIN -120"), 65, 128)));
@@ -351,11 +354,12 @@ static void desk(void) {
     name(CALL(strlib_find_label(LENT(CELLO GALLERY), 2, 12)));
     name(CALL(strlib_find_label(LENT(CELLO BLANK), 1, 1)));
     name(CALL(strlib_find_label(LENT(CELLO GALLERY), 3, 129)));
+    name(CALL(strlib_find_label(LENT(CELLO GALLERY), 257, 12)));
     name(CALL(strlib_find_label(LENT(CELLO GALLERY), 2, 129)));
     name(CALL(strlib_find_label(LENT(CELLO PAST), 3, 12)));
     part(CALL(strlib_label_name(LENT(CELLO GALLERY), 2, 128)));
     part(CALL(strlib_label_name(LENT(CELLO GALLERY), 2, 12)));
-    part(CALL(strlib_label_name(LENT(CELLO GALLERY), 3, 12)));
+    part(CALL(strlib_label_name(LENT(CELLO GALLERY), 257, 12)));
 
     PUT(CELLO "......................");
     added(CALL(strlib_add_label(store, used, 19, 2, 128, LENT("GALLERY LEFT"))));
@@ -363,6 +367,7 @@ static void desk(void) {
     added(CALL(strlib_add_label(store, used, 42, 3, 65, LENT("CELLO"))));
     added(CALL(strlib_add_label(store, used, 18, 1, 65, LENT("CELLO"))));
     added(CALL(strlib_add_label(store, used, 19, 3, 65, LENT("CELLO"))));
+    added(CALL(strlib_add_label(store, used, 19, 257, 1, LENT("CELLO"))));
     added(CALL(strlib_add_label(store, used, 19, 1, 65, LENT("SEVENTEEN LETTERS"))));
     added(CALL(strlib_add_label(store, used, 19, 1, 12, LENT("SEVENTEEN LETTERS"))));
     added(CALL(strlib_add_label(store, used, 19, 1, 12, LENT("CELL\177"))));

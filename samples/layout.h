@@ -107,19 +107,22 @@ FIELD(strlib_number, value, 8, int64_t);
 
 SIZE(strlib_cue, 32);
 FIELD(strlib_cue, refusal, 0, uint8_t);
+FIELD(strlib_cue, word, 1, uint8_t);
 FIELD(strlib_cue, microphone, 8, size_t);
 FIELD(strlib_cue, loudspeaker, 16, size_t);
 FIELD(strlib_cue, gain, 24, int64_t);
 
-SIZE(strlib_size, 16);
+SIZE(strlib_size, 24);
 FIELD(strlib_size, refusal, 0, uint8_t);
-FIELD(strlib_size, value, 8, size_t);
+FIELD(strlib_size, offset, 8, size_t);
+FIELD(strlib_size, value, 16, size_t);
 
-SIZE(strlib_name, 24);
+SIZE(strlib_name, 32);
 FIELD(strlib_name, refusal, 0, uint8_t);
 FIELD(strlib_name, found, 1, bool);
-FIELD(strlib_name, place, 8, size_t);
-FIELD(strlib_name, length, 16, size_t);
+FIELD(strlib_name, offset, 8, size_t);
+FIELD(strlib_name, place, 16, size_t);
+FIELD(strlib_name, length, 24, size_t);
 
 _Static_assert(STRLIB_STORE_MAX == 65536 && STRLIB_LIST_MAX == 32 && STRLIB_LIST_CHARACTERS_MAX == 240 &&
                    STRLIB_TABLE_MIN == 31461 && STRLIB_BURST_MAX == 300 && STRLIB_BLOCK_WORDS == 128,

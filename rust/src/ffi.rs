@@ -128,6 +128,7 @@ pub struct NumberAnswer {
 #[derive(Clone, Copy, Debug, Default, PartialEq, Eq)]
 pub struct CueAnswer {
     pub refusal: u8,
+    pub word: u8,
     pub microphone: usize,
     pub loudspeaker: usize,
     pub gain: i64,
@@ -137,6 +138,7 @@ pub struct CueAnswer {
 #[derive(Clone, Copy, Debug, Default, PartialEq, Eq)]
 pub struct SizeAnswer {
     pub refusal: u8,
+    pub offset: usize,
     pub value: usize,
 }
 
@@ -145,6 +147,7 @@ pub struct SizeAnswer {
 pub struct NameAnswer {
     pub refusal: u8,
     pub found: bool,
+    pub offset: usize,
     pub place: usize,
     pub length: usize,
 }
@@ -351,20 +354,20 @@ extern "C" {
     pub fn strlib_find_label(
         list: *const u8,
         list_length: usize,
-        kind: u8,
+        kind: usize,
         number: usize,
     ) -> NameAnswer;
     pub fn strlib_label_name(
         list: *const u8,
         list_length: usize,
-        kind: u8,
+        kind: usize,
         number: usize,
     ) -> PartAnswer;
     pub fn strlib_add_label(
         buffer: *mut u8,
         buffer_length: usize,
         length: usize,
-        kind: u8,
+        kind: usize,
         number: usize,
         name: *const u8,
         name_length: usize,

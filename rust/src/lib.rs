@@ -1,7 +1,8 @@
 //! Pathferrous for Rust: the proved string library and the desk above it.
 //!
 //! A store is a slice of bytes that the caller lends, at most 65,536 of them; a string is a [`StrPtr`] into it. Every call
-//! takes any bytes, pointers and numbers and checks them itself. A [`Refusal`] changes nothing that was lent.
+//! takes any bytes, pointers and numbers and checks them itself. A [`Refusal`] changes nothing that was lent; that of a cue line
+//! says which word is at fault ([`CueRefusal`]), that of a label list which record ([`LabelRefusal`]).
 //!
 //! `rt staticlib strlib_c` in the folder above makes the library that this package links; `cargo test --release` compares every
 //! call with documents 01 and 02.
@@ -43,7 +44,9 @@ pub use cutting::{
     between, between_part, counted, counted_part, desk_label, relative, relative_part, trim,
     trimmed_part,
 };
-pub use desk::{add_label, find_label, label_name, read_cue, read_labels, Cue, Name};
+pub use desk::{
+    add_label, find_label, label_name, read_cue, read_labels, Cue, CueRefusal, LabelRefusal, Name,
+};
 pub use editing::{replace, reverse, reverse_from};
 pub use number::{read_number, write_number};
 pub use pointer::{

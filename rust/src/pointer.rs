@@ -15,7 +15,7 @@ pub const BURST_MAX: usize = 300;
 /// Words in a block of character sets.
 pub const BLOCK_WORDS: usize = 128;
 
-/// The number of a refusal, 1 to 12; nothing that was lent has changed.
+/// The number of a refusal, as README.md lists them; nothing that was lent has changed.
 #[derive(Clone, Copy, Debug, PartialEq, Eq)]
 pub struct Refusal(pub u8);
 

@@ -22,7 +22,7 @@ use Rattle.words.specs.Lines.{nextLine}
 use Rattle.words.specs.Words.{pointerOf}
 use Rattle.words.specs.declared.Piece.{Piece}
 use Rattle.desk.proofs.CueGiven.{cue-too-long}
-use Rattle.desk.specs.Cue.{cueRule}
+use Rattle.desk.specs.Cue.{cueRule, cueWordRule}
 use Rattle.desk.specs.declared.cue.Cue.{Cue}
 use Rattle.buffer.proofs.Growing.{grow-more, grown-none, grown-size, grown-inside, grown-bytes, take-twice}
 use Rattle.buffer.specs.Buffer.{grown}
@@ -48,10 +48,12 @@ module _ (m : ℕ) (big : 65536 < m) where
 
 -- ---- lines that were answered
 
-pub answer-is : (s : State) (o o′ l : List ℕ) (a : Outcome Cue) (m n k : ℕ) → a ≡ cueRule l 64 128 → m ≡ counted (s .lines + 1)
+pub answer-is : (s : State) (o o′ l : List ℕ) (a : Outcome Cue) (w m n k : ℕ) → (a, w) ≡ cueWordRule l 64 128 → m ≡ counted (s .lines + 1)
     → (n, o′) ≡ grown o (s .out) (answerText m a) → k ≡ counted (s .ok + goodOf a)
     → Answered s o (cueRule l 64 128) (record { lines = m; ok = k; held = 0; out = n }) o′
-answer-is s o o′ l a m n k e em g q = record { text = rw (← e, ← em) g; lines = em; ok = rw (← e) q; held = refl }
+answer-is s o o′ l a w m n k f em g q =
+    let e : a ≡ cueRule l 64 128 = ap (λ (z : Outcome Cue × ℕ). z .0) f in
+    record { text = rw (← e, ← em) g; lines = em; ok = rw (← e) q; held = refl }
 
 counted-none : (s : State) (h o : List ℕ) → Ready h o s → Counted s o [] s o
 unfolding answersText goods

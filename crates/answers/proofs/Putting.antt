@@ -1,5 +1,5 @@
 -- Laws of the text of an answer, which is put together from its parts, and of the counters. Assumes nothing.
-use mathlib.Core.Path.{_≡_, refl, sym}
+use mathlib.Core.Path.{_≡_, refl, sym, ap}
 use mathlib.Core.Bool.{true}
 use mathlib.Core.List.{List, _++_}
 use Prim.Native.Nat.{ℕ, _+_, _-_, _≤_, _<_}
@@ -13,9 +13,10 @@ use Rattle.number.specs.Written.{digits, written}
 use Rattle.strlib.specs.Quoted.{bytes}
 use Rattle.strlib.specs.Refusal.{Outcome, refused, gives}
 use Rattle.desk.proofs.CueGiven.{cue-given, gain-in-range}
-use Rattle.desk.specs.Cue.{cueAnswered, cueRule}
+use Rattle.desk.specs.Cue.{cueAnswered, cueWordRule}
 use Rattle.desk.specs.declared.cue.Cue.{Cue}
 use Rattle.desk.specs.declared.cue.CueAnswer.{CueAnswer}
+use Rattle.desk.specs.declared.cue.CueFault.{CueFault}
 use Rattle.desk.specs.declared.cue.CueAnswer.the-variants.{Cue as Given, Refused}
 use Rattle.buffer.proofs.Growing.{grow-more}
 use Rattle.buffer.specs.Buffer.{grown, valueText}
@@ -30,10 +31,10 @@ unfolding valueText
 value-is z e = rw e
 
 -- a cue that is given has a gain that can be written
-pub rule-writable : (line : List ℕ) (a : Outcome Cue) → a ≡ cueRule line 64 128 → writable a ≡ true
+pub rule-writable : (line : List ℕ) (a : Outcome Cue) (w : ℕ) → (a, w) ≡ cueWordRule line 64 128 → writable a ≡ true
 unfolding writable
-rule-writable line (gives c) e = gain-in-range (c .gain) (cue-given line 64 128 c (sym e) .gain)
-rule-writable line (refused k) e = refl
+rule-writable line (gives c) w e = gain-in-range (c .gain) (cue-given line 64 128 c (sym (ap (λ (z : Outcome Cue × ℕ). z .0) e)) .gain)
+rule-writable line (refused k) w e = refl
 
 pub ok-is : (b b1 b2 b3 b4 : List ℕ) (n n1 n2 n3 n4 : ℕ) (c : Cue) (g : ℤ) → inRange (c .gain) ≡ true → g ≡ c .gain
     → (n1, b1) ≡ grown b n (bytes " ok " ++ digits 10 (c .microphone)) → (n2, b2) ≡ grown b1 n1 (bytes " " ++ digits 10 (c .loudspeaker))
@@ -48,9 +49,9 @@ module _ (b : List ℕ) (n : ℕ) (b′ : List ℕ) (r : ℕ) (a : CueAnswer) wh
   unfolding cueText
   cue-ok c e g = rw e g
 
-  pub cue-not : (k : ℕ) → a ≡ Refused k → (r, b′) ≡ grown b n (bytes " refused " ++ digits 10 k) → (r, b′) ≡ grown b n (cueText (cueAnswered a))
+  pub cue-not : (f : CueFault) → a ≡ Refused f → (r, b′) ≡ grown b n (bytes " refused " ++ digits 10 (f .number)) → (r, b′) ≡ grown b n (cueText (cueAnswered a))
   unfolding cueText
-  cue-not k e g = rw e g
+  cue-not f e g = rw e g
 
 pub cue-writable : (a : CueAnswer) (c : Cue) → writable (cueAnswered a) ≡ true → a ≡ Given c → inRange (c .gain) ≡ true
 unfolding writable
@@ -77,7 +78,7 @@ pub good-yes : (n r : ℕ) (a : CueAnswer) (c : Cue) → a ≡ Given c → r ≡
 unfolding goodOf
 good-yes n r a c e h = rw e h
 
-pub good-no : (n k : ℕ) (a : CueAnswer) → Fits w64 n → a ≡ Refused k → n ≡ counted (n + goodOf (cueAnswered a))
+pub good-no : (n : ℕ) (k : CueFault) (a : CueAnswer) → Fits w64 n → a ≡ Refused k → n ≡ counted (n + goodOf (cueAnswered a))
 unfolding goodOf counted
 good-no n k a f e = rw e (omega (arith, f .fits))
 

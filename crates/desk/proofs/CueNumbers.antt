@@ -1,5 +1,5 @@
 -- Laws of the numbers of a cue: a signed number as an index, and the three against the matrix. Assumes nothing.
-use mathlib.Core.Path.{_≡_, refl, sym, _∙_}
+use mathlib.Core.Path.{_≡_, refl, sym, ap, _∙_}
 use mathlib.Core.Bool.{Bool, true, false, cond, _&&_, and-true, and-false, true≢false, false≢true}
 use Prim.Native.Nat.{ℕ, zero, suc, _^_, _≤_, _<_}
 use native.Mathlib.Omega.{arith}
@@ -18,7 +18,7 @@ use Rattle.strlib.proofs.Refusing.{and-both, outcome-no, outcome-yes}
 use Rattle.strlib.specs.Refusal.{Outcome, refused, gives, first}
 use Rattle.desk.specs.declared.cue.Cue.{Cue}
 use Rattle.desk.specs.Cue.{isIndex, isGain, matrixChecks, cueOf}
-use Rattle.desk.specs.CueInner.{indexOf, inMatrix, inOrder}
+use Rattle.desk.specs.CueInner.{indexOf, wordless, inMatrix, inOrder}
 
 -- ---- an index
 
@@ -84,19 +84,20 @@ module _ (mics lsps : ℕ) (n n′ m m′ g g′ : ℤ) (i j : ℕ) (a b c : Boo
   tests : c ≡ ((isIndex mics n && isIndex lsps m) && isGain g)
   tests = ec ∙ rw (ea, eb, ei, ej, en, em, eg, index-is mics n, index-is lsps m)
 
-  pub matrix-in : c ≡ true → gives (record { microphone = i; loudspeaker = j; gain = g′ }) ≡ inMatrix mics lsps n m g
+  pub matrix-in : c ≡ true → wordless (gives (record { microphone = i; loudspeaker = j; gain = g′ })) ≡ wordless (inMatrix mics lsps n m g)
   unfolding inMatrix cueOf
   matrix-in t =
       let p = and-both (isIndex mics n && isIndex lsps m) (isGain g) (sym tests ∙ t) in
       let q = and-both (isIndex mics n) (isIndex lsps m) (p .0) in
       let x : i ≡ natAbs n = ei ∙ rw en (index-value mics n (q .0)) in
       let y : j ≡ natAbs m = ej ∙ rw em (index-value lsps m (q .1)) in
-      outcome-yes 0 (first (matrixChecks mics lsps n m g)) (rw (q .0, q .1, p .1)) _ (cueOf n m g) refl (rw (x, y, eg))
+      ap wordless (outcome-yes 0 (first (matrixChecks mics lsps n m g)) (rw (q .0, q .1, p .1)) _ (cueOf n m g) refl (rw (x, y, eg)))
 
-  pub matrix-out : c ≡ false → refused 12 ≡ inMatrix mics lsps n m g
+  pub matrix-out : c ≡ false → wordless (refused 12) ≡ wordless (inMatrix mics lsps n m g)
   unfolding inMatrix
   matrix-out t =
-      outcome-no 12 (first (matrixChecks mics lsps n m g)) (go (isIndex mics n) (isIndex lsps m) (isGain g) (sym tests ∙ t)) (cueOf n m g) (λ (z : _≡_ {A = ℕ} 12 0). omega arith)
+      ap wordless
+      (outcome-no 12 (first (matrixChecks mics lsps n m g)) (go (isIndex mics n) (isIndex lsps m) (isGain g) (sym tests ∙ t)) (cueOf n m g) (λ (z : _≡_ {A = ℕ} 12 0). omega arith))
     where
       go : (x y z : Bool) → ((x && y) && z) ≡ false → _≡_ {A = ℕ} 12 (cond x (cond y (cond z 0 12) 12) 12)
       go true true true e = absurd (true≢false e)
@@ -112,19 +113,19 @@ module _ (mics lsps : ℕ) (n m g : NumberAnswer) where
   abbrev whole : Outcome Cue
   whole = inOrder mics lsps (numberAnswered n) (numberAnswered m) (numberAnswered g)
 
-  pub first-bad : (k : ℕ) → n ≡ NoNumber k → refused k ≡ whole
+  pub first-bad : (k : ℕ) → n ≡ NoNumber k → wordless (refused k) ≡ wordless whole
   unfolding inOrder
   first-bad k e = rw e
 
-  pub second-bad : (k : ℕ) (x : ℤ) → n ≡ Number x → m ≡ NoNumber k → refused k ≡ whole
+  pub second-bad : (k : ℕ) (x : ℤ) → n ≡ Number x → m ≡ NoNumber k → wordless (refused k) ≡ wordless whole
   unfolding inOrder
   second-bad k x e f = rw (e, f)
 
-  pub third-bad : (k : ℕ) (x y : ℤ) → n ≡ Number x → m ≡ Number y → g ≡ NoNumber k → refused k ≡ whole
+  pub third-bad : (k : ℕ) (x y : ℤ) → n ≡ Number x → m ≡ Number y → g ≡ NoNumber k → wordless (refused k) ≡ wordless whole
   unfolding inOrder
   third-bad k x y e f h = rw (e, f, h)
 
-  pub none-bad : (r : Outcome Cue) (x y z : ℤ) → n ≡ Number x → m ≡ Number y → g ≡ Number z → r ≡ inMatrix mics lsps x y z → r ≡ whole
+  pub none-bad : (r : Outcome Cue × ℕ) (x y z : ℤ) → n ≡ Number x → m ≡ Number y → g ≡ Number z → r ≡ wordless (inMatrix mics lsps x y z) → r ≡ wordless whole
   unfolding inOrder
   none-bad r x y z e f h q = rw (e, f, h) q
 

@@ -2,17 +2,18 @@
 -- the numbers are read as texts of characters, in order. Assumes nothing.
 use mathlib.Core.Path.{_≡_, refl, sym, ap, _∙_}
 use mathlib.Core.Bool.{Bool, true, false, cond, _&&_}
-use mathlib.Core.List.{List, [], _++_}
+use mathlib.Core.List.{List, [], _∷_, _++_}
 use Prim.Native.Nat.{ℕ, zero, suc, _<_}
 use native.Mathlib.Omega.{arith}
 use borrow.Author.Needs.{needs}
-use lib.Dec.{leb}
+use borrow.Author.Tests.{eqb-true, eq-eqb, ne-eqb}
+use lib.Dec.{leb, eqb}
 use lib.IntN.{ℤ}
 use lib.ListN.{length, getD}
 use Rattle.number.proofs.Telling.{read-text}
 use Rattle.number.specs.Text.{numberOf}
 use Rattle.number.specs.Number.{ofText, readRule}
-use Rattle.strlib.proofs.Refusing.{numbered, first-is, first-before, first-behind, passed, outcome-no, outcome-yes}
+use Rattle.strlib.proofs.Refusing.{bool-case, numbered, first-is, first-other, first-before, first-behind, passed, outcome-no, outcome-yes}
 use Rattle.strlib.proofs.Texts.{part-readable}
 use Rattle.strlib.specs.Pointer.{storeFits, characters}
 use Rattle.strlib.specs.Refusal.{Outcome, refused, gives, first, also, outcome}
@@ -20,9 +21,9 @@ use Rattle.strlib.specs.declared.StrPtr.{StrPtr}
 use Rattle.words.proofs.Wording.{word-no, words-good}
 use Rattle.words.specs.Words.{words, firstWords}
 use Rattle.desk.specs.declared.cue.Cue.{Cue}
-use Rattle.desk.specs.Cue.{formed, isSize, micWord, lspWord, gainWord, lineChecks, matrixChecks, numberChecks, wordChecks, cueOf}
-use Rattle.desk.specs.Cue.{cueRefusal, cueRule}
-use Rattle.desk.specs.CueInner.{lineRefusal, inMatrix, inOrder}
+use Rattle.desk.specs.Cue.{wrongWord, formed, isSize, micWord, lspWord, gainWord, lineChecks, matrixChecks, numberChecks, wordChecks, cueOf}
+use Rattle.desk.specs.Cue.{cueRefusal, cueRule, cueWord, cueWordRule}
+use Rattle.desk.specs.CueInner.{lineRefusal, wordless, inMatrix, inOrder}
 
 -- ---- the checks before the words
 
@@ -43,10 +44,11 @@ pub ruleset line-laws = (needs, size-in, line-checked)
 pub record LinePassed (s : List ℕ) : Type 0 where
   pub fits : storeFits s ≡ true
   pub plain : characters s ≡ true
+  pub short : leb (length s) 80 ≡ true
 
 line-passed : (s : List ℕ) (mics lsps : ℕ) → lineRefusal s mics lsps ≡ 0 → LinePassed s
 unfolding lineRefusal
-line-passed s mics lsps e = let p = passed (lineChecks s mics lsps) refl e in record { fits = p .0; plain = p .1 .1 .1 .0 }
+line-passed s mics lsps e = let p = passed (lineChecks s mics lsps) refl e in record { fits = p .0; plain = p .1 .1 .1 .0; short = p .1 .1 .1 .1 .0 }
 
 -- ---- the numbers in order are the rule's checks in order
 
@@ -83,33 +85,66 @@ abbrev cue : List ℕ → Cue
 cue s = cueOf (numberOf 10 (micWord s)) (numberOf 10 (lspWord s)) (numberOf 10 (gainWord s))
 
 module _ (s : List ℕ) (mics lsps k : ℕ) (ek : k ≡ lineRefusal s mics lsps) where
-  pub cue-line : (k ≡ 0 → ⊥) → refused k ≡ cueRule s mics lsps
-  unfolding cueRule cueRefusal lineRefusal
-  cue-line h = outcome-no k (cueRefusal s mics lsps) (first-before (lineChecks s mics lsps) (wordChecks s mics lsps) k ek h) (cue s) h
-
-  module _ (z : k ≡ 0) (form : Bool) (ef : form ≡ formed s) where
-    -- the words decide
-    behind : cueRefusal s mics lsps ≡ cond form (first (numberChecks mics lsps (micWord s) (lspWord s) (gainWord s))) 11
+  -- a refusal before the words has no word: it is 11 only of a line over 80 characters
+  module _ (h : k ≡ 0 → ⊥) where
+    early : k ≡ cueRefusal s mics lsps
     unfolding cueRefusal lineRefusal
-    behind = first-behind (lineChecks s mics lsps) (wordChecks s mics lsps) refl (sym ek ∙ z) ∙ rw ef
+    early = first-before (lineChecks s mics lsps) (wordChecks s mics lsps) k ek h
 
-    pub cue-form : form ≡ false → refused 11 ≡ cueRule s mics lsps
+    long : k ≡ 11 → leb (length s) 80 ≡ false
+    unfolding lineRefusal
+    long e = bool-case (leb (length s) 80) (λ t. absurd (short t)) (λ f. f)
+      where
+        before : List (ℕ × Bool)
+        before = (3, storeFits s) ∷ (3, isSize 64 mics) ∷ (3, isSize 128 lsps) ∷ (2, characters s) ∷ []
+
+        short : leb (length s) 80 ≡ true → ⊥
+        short t =
+            let f : first before ≡ 11 = rw t at (sym ek ∙ e) in
+            omega (arith, first-other 11 before refl f)
+
+    no-word : 0 ≡ cueWord s mics lsps
+    unfolding cueWord
+    no-word = rw (← early) (bool-case (eqb k 11) (λ t. rw (t, long (eqb-true k 11 t))) (λ f. rw f))
+
+    pub cue-line : (refused k, 0) ≡ cueWordRule s mics lsps
     unfolding cueRule
-    cue-form f = outcome-no 11 (cueRefusal s mics lsps) (sym (behind ∙ rw f)) (cue s) (λ (y : _≡_ {A = ℕ} 11 0). omega arith)
+    cue-line = rw (← no-word) (ap wordless (outcome-no k (cueRefusal s mics lsps) early (cue s) h))
 
-    module _ (l : List StrPtr) (el : l ≡ firstWords 8 s 0) where
+  module _ (z : k ≡ 0) (w : ℕ) (ew : w ≡ wrongWord s) where
+    passes : LinePassed s
+    passes = line-passed s mics lsps (sym ek ∙ z)
+
+    -- the words decide
+    behind : cueRefusal s mics lsps ≡ cond (eqb w 0) (first (numberChecks mics lsps (micWord s) (lspWord s) (gainWord s))) 11
+    unfolding cueRefusal lineRefusal formed
+    behind = first-behind (lineChecks s mics lsps) (wordChecks s mics lsps) refl (sym ek ∙ z) ∙ rw ew
+
+    pub cue-form : (w ≡ 0 → ⊥) → (refused 11, w) ≡ cueWordRule s mics lsps
+    unfolding cueRule cueWord
+    cue-form f =
+        let r : cueRefusal s mics lsps ≡ 11 = behind ∙ rw (ne-eqb w 0 f) in
+        let a : refused 11 ≡ cueRule s mics lsps = outcome-no 11 (cueRefusal s mics lsps) (sym r) (cue s) (λ (y : _≡_ {A = ℕ} 11 0). omega arith) in
+        let b : w ≡ cueWord s mics lsps = rw (r, passes .short) ew in
+        rw (← a, ← b)
+
+    module _ (y : w ≡ 0) (l : List StrPtr) (el : l ≡ firstWords 8 s 0) where
       number-is : (i : ℕ) → i < 8 → (d : StrPtr) → readRule s (getD l i d) 10 ≡ read (getD (words s) i [])
       number-is i h d =
-          let p : LinePassed s = line-passed s mics lsps (sym ek ∙ z) in
           let w : StrPtr = getD (firstWords 8 s 0) i d in
-          rw el (read-text s w (p .fits) (words-good 8 s 0 i d (omega arith) h) (part-readable s w (p .plain)) ∙ ap read (word-no 8 s 0 i d h))
+          rw el (read-text s w (passes .fits) (words-good 8 s 0 i d (omega arith) h) (part-readable s w (passes .plain)) ∙ ap read (word-no 8 s 0 i d h))
 
-      pub cue-read : (dn dm dg : StrPtr) (n m g : Outcome ℤ) (r : Outcome Cue) → form ≡ true → n ≡ readRule s (getD l 1 dn) 10
-          → m ≡ readRule s (getD l 4 dm) 10 → g ≡ readRule s (getD l 6 dg) 10 → r ≡ inOrder mics lsps n m g → r ≡ cueRule s mics lsps
+      none : 0 ≡ cueWord s mics lsps
+      unfolding cueWord
+      none = rw (passes .short, ← ew, y) (bool-case (eqb (cueRefusal s mics lsps) 11) (λ t. rw t) (λ f. rw f))
+
+      pub cue-read : (dn dm dg : StrPtr) (n m g : Outcome ℤ) (r : Outcome Cue × ℕ) → n ≡ readRule s (getD l 1 dn) 10
+          → m ≡ readRule s (getD l 4 dm) 10 → g ≡ readRule s (getD l 6 dg) 10 → r ≡ wordless (inOrder mics lsps n m g) → r ≡ cueWordRule s mics lsps
       unfolding cueRule
-      cue-read dn dm dg n m g r f en em eg er =
-          er
-          ∙ rw (en, em, eg, number-is 1 (omega arith) dn, number-is 4 (omega arith) dm, number-is 6 (omega arith) dg)
-          (order-is mics lsps (micWord s) (lspWord s) (gainWord s) ∙ ap (λ (x : ℕ). outcome x (cue s)) (sym (behind ∙ rw f)))
+      cue-read dn dm dg n m g r en em eg er =
+          let o : inOrder mics lsps n m g ≡ cueRule s mics lsps =
+          rw (en, em, eg, number-is 1 (omega arith) dn, number-is 4 (omega arith) dm, number-is 6 (omega arith) dg)
+          (order-is mics lsps (micWord s) (lspWord s) (gainWord s) ∙ ap (λ (x : ℕ). outcome x (cue s)) (sym (behind ∙ rw (eq-eqb w 0 y)))) in
+          er ∙ rw (o, ← none)
 
 pub ruleset cue-laws = (needs, cue-line, cue-form, cue-read)

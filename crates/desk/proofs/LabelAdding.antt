@@ -10,17 +10,20 @@ use mir.Syntax.{w64}
 use mir.Val.{Fits}
 use borrow.Author.Needs.{needs}
 use borrow.Author.Tests.{leb-true, le-leb, lt-leb}
-use Rattle.strlib.proofs.Refusing.{ruled-no, ruled-yes}
-use Rattle.strlib.specs.Refusal.{refused, gives}
 use Rattle.strlib.specs.Store.{put}
 use Rattle.moving.proofs.Pasting.{pasted-in, pasted-length}
 use Rattle.moving.specs.Moving.{pasted}
 use Rattle.records.proofs.Bytes.{label-length, fitted-is}
 use Rattle.records.proofs.Checking.{Writable, writable}
 use Rattle.records.proofs.Limits.{in-range, earlier-none, earlier-found, earlier-zero}
-use Rattle.records.specs.Record.{recordSize, earlier, listRefusal, newRefusal, labelBytes, fittedBytes}
+use Rattle.records.proofs.Placing.{good-place}
+use Rattle.records.proofs.Telling.{ruled-at-no, ruled-at-yes}
+use Rattle.records.specs.Record.{recordSize, earlier, listRefusal, faultPlace, newRefusal, labelBytes, fittedBytes}
+use Rattle.records.specs.Told.{refusedAt, tells}
+use Rattle.records.specs.declared.Fault.{Fault}
 use Rattle.desk.proofs.LabelReading.{answered-good, answered-refused}
-use Rattle.desk.specs.Label.{readLabelsRule, labelCounted, addRefusal, addRule}
+use Rattle.desk.specs.Label.{readLabelsRule, labelCounted, addRefusal, addPlace, addRule}
+use Rattle.desk.specs.LabelInner.{addFault}
 use Rattle.desk.specs.declared.label.read.LabelCount.{LabelCount}
 use Rattle.desk.specs.declared.label.read.LabelCount.the-variants.{Records, Refused as Uncounted}
 
@@ -30,22 +33,26 @@ pub front-length : (b : List ℕ) (n : ℕ) → n ≤ length b → n ≡ length 
 front-length b n h = rw length-take (omega arith)
 
 module _ (b : List ℕ) (n kind number : ℕ) (name : List ℕ) where
-  pub add-long : length b < n → 4 ≡ addRefusal b n kind number name
-  unfolding addRefusal
+  pub add-long : length b < n → _≡_ {A = Fault} (record { number = 4; offset = n }) (addFault b n kind number name)
+  unfolding addFault addRefusal addPlace
   add-long h = rw (lt-leb n (length b) h)
 
   module _ (h : n ≤ length b) (a : LabelCount) (e : labelCounted a ≡ readLabelsRule (take n b)) where
-    pub add-list : (k : ℕ) → a ≡ Uncounted k → k ≡ addRefusal b n kind number name
-    unfolding addRefusal
-    add-list k q =
-        let f = answered-refused (take n b) a e k q in
-        rw (le-leb n (length b) h) (f .0 ∙ sym (earlier-found (listRefusal (take n b)) (newRefusal (take n b) (length b - n) kind number name) (rw (f .0) at (f .1))))
+    abbrev new : ℕ
+    new = newRefusal (take n b) (length b - n) kind number name
 
-    pub add-new : (m k : ℕ) → a ≡ Records m → k ≡ newRefusal (take n b) (length b - n) kind number name → k ≡ addRefusal b n kind number name
-    unfolding addRefusal
+    pub add-list : (f : Fault) → a ≡ Uncounted f → f ≡ addFault b n kind number name
+    unfolding addFault addRefusal addPlace
+    add-list f q =
+        let g = answered-refused (take n b) a e f q in
+        rw (le-leb n (length b) h, earlier-found (listRefusal (take n b)) new (rw (g .0) at (g .1 .1)), ← (g .0), ← (g .1 .0))
+
+    pub add-new : (m k : ℕ) → a ≡ Records m → k ≡ newRefusal (take n b) (length b - n) kind number name
+        → _≡_ {A = Fault} (record { number = k; offset = length (take n b) }) (addFault b n kind number name)
+    unfolding addFault addRefusal addPlace
     add-new m k q f =
-        rw (le-leb n (length b) h)
-        (f ∙ sym (earlier-zero (listRefusal (take n b)) (newRefusal (take n b) (length b - n) kind number name) (answered-good (take n b) a e m q)))
+        let g = answered-good (take n b) a e m q in
+        rw (le-leb n (length b) h, earlier-zero (listRefusal (take n b)) new g, good-place (take n b) g, f)
 
 pub ruleset refusal-laws = (needs, front-length, add-long, add-list, add-new)
 
@@ -71,14 +78,23 @@ adding b n kind number name e = go (leb n (length b)) refl e
 pub add-size : (b b′ : List ℕ) (n kind number : ℕ) (name : List ℕ) → b′ ≡ pasted b n (fittedBytes kind number name) → length b′ ≡ length b
 add-size b b′ n kind number name e = rw e (pasted-length b n (fittedBytes kind number name))
 
-module _ (b : List ℕ) (n kind number : ℕ) (name : List ℕ) (k : ℕ) (e : k ≡ addRefusal b n kind number name) where
-  pub add-refused : (k ≡ 0 → ⊥) → (refused k, b) ≡ addRule b n kind number name
-  unfolding addRule
-  add-refused h = ruled-no k (addRefusal b n kind number name) e (n + recordSize kind) (put b n (labelBytes kind number name)) b h
+module _ (b : List ℕ) (n kind number : ℕ) (name : List ℕ) (f : Fault) (e : f ≡ addFault b n kind number name) where
+  number-is : f .number ≡ addRefusal b n kind number name
+  unfolding addFault
+  number-is = ap (λ (f : Fault). f .number) e
 
-  module _ (z : k ≡ 0) (size : ℕ) (es : size ≡ recordSize kind) where
+  offset-is : f .offset ≡ addPlace b n
+  unfolding addFault
+  offset-is = ap (λ (f : Fault). f .offset) e
+
+  pub add-refused : (f .number ≡ 0 → ⊥) → (refusedAt (f .number) (f .offset), b) ≡ addRule b n kind number name
+  unfolding addRule
+  add-refused h =
+      ruled-at-no (f .number) (addRefusal b n kind number name) number-is (f .offset) (addPlace b n) (n + recordSize kind) (put b n (labelBytes kind number name)) b offset-is h
+
+  module _ (z : f .number ≡ 0) (size : ℕ) (es : size ≡ recordSize kind) where
     a : Adding b n kind number name
-    a = adding b n kind number name (sym e ∙ z)
+    a = adding b n kind number name (sym number-is ∙ z)
 
     room : n + recordSize kind ≤ length b
     room = omega (arith, a .within, a .new .roomy)
@@ -86,13 +102,14 @@ module _ (b : List ℕ) (n kind number : ℕ) (name : List ℕ) (k : ℕ) (e : k
     pub add-fits : length b * 1 < 2 ^ 63 → Fits w64 (n + size)
     add-fits h = record { fits = omega (arith, room) }
 
-    pub add-done : (b′ : List ℕ) → b′ ≡ pasted b n (fittedBytes kind number name) → (gives (n + size), b′) ≡ addRule b n kind number name
+    pub add-done : (b′ : List ℕ) → b′ ≡ pasted b n (fittedBytes kind number name) → (tells (n + size), b′) ≡ addRule b n kind number name
     unfolding addRule
     add-done b′ q =
-        let s = in-range kind number (a .new .numbers) .1 in
-        let f : fittedBytes kind number name ≡ labelBytes kind number name = fitted-is kind number name (a .new .short) (omega arith) in
+        let s = in-range kind number (a .new .numbers) in
+        let g : fittedBytes kind number name ≡ labelBytes kind number name =
+        fitted-is kind number name (a .new .short) (omega (arith, s .0)) (omega (arith, s .1)) in
         let r : b′ ≡ put b n (labelBytes kind number name) =
-        q ∙ ap (pasted b n) f ∙ pasted-in b n (labelBytes kind number name) (omega (arith, room, label-length kind number name (a .new .short))) in
-        ruled-yes k (addRefusal b n kind number name) e (n + size) (n + recordSize kind) b′ (put b n (labelBytes kind number name)) b z (rw es) r
+        q ∙ ap (pasted b n) g ∙ pasted-in b n (labelBytes kind number name) (omega (arith, room, label-length kind number name (a .new .short))) in
+        ruled-at-yes (f .number) (addRefusal b n kind number name) number-is (addPlace b n) (n + size) (n + recordSize kind) b′ (put b n (labelBytes kind number name)) b z (rw es) r
 
 pub ruleset add-laws = (needs, add-size, add-refused, add-fits, add-done)

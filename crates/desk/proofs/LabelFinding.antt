@@ -9,8 +9,7 @@ use denote.Ref.{RefT, now}
 use mir.Syntax.{w64}
 use mir.Val.{Fits}
 use borrow.Author.Needs.{needs}
-use Rattle.strlib.proofs.Refusing.{outcome-no, outcome-yes, outcome-gave}
-use Rattle.strlib.specs.Refusal.{Outcome, refused, gives, Sought, nowhere, at, outcome}
+use Rattle.strlib.specs.Refusal.{Sought, nowhere, at}
 use Rattle.cutting.proofs.Bounding.{trimmed-le}
 use Rattle.cutting.proofs.Slicing.{part-trimmed, part-counted}
 use Rattle.cutting.specs.Cutting.{trimmedLength}
@@ -20,8 +19,12 @@ use Rattle.records.proofs.Fronts.{name-front, name-length}
 use Rattle.records.proofs.Goodness.{good-passes, record-length, record-place, place-front, record-front}
 use Rattle.records.proofs.Likeness.{record-of-le}
 use Rattle.records.proofs.Limits.{earlier-none, earlier-found, earlier-zero}
+use Rattle.records.proofs.Placing.{good-place}
 use Rattle.records.proofs.Sizes.{size-width, place-begins}
-use Rattle.records.specs.Record.{headSize, recordSize, kindOf, nameIn, placeOf, recordAt, records, recordOf, earlier, listRefusal, keyRefusal}
+use Rattle.records.proofs.Telling.{told-no, told-yes, told-gave}
+use Rattle.records.specs.Record.{headSize, recordSize, kindOf, nameIn, placeOf, recordAt, records, recordOf, earlier, listRefusal, faultPlace, keyRefusal}
+use Rattle.records.specs.Told.{Told, refusedAt, tells, told}
+use Rattle.records.specs.declared.Fault.{Fault}
 use Rattle.desk.proofs.LabelReading.{answered-good, answered-refused}
 use Rattle.desk.specs.Label.{readLabelsRule, labelCounted, nameOf, findLabelRule, labelPlaced, namePart}
 use Rattle.desk.specs.LabelInner.{Counted}
@@ -33,7 +36,7 @@ use Rattle.desk.specs.declared.label.find.LabelPlace.the-variants.{Found
 -- ---- the name of a record
 
 module _ (l : List ℕ) (k : ℕ) where
-  pub name-missing : k ≡ 0 → gives nowhere ≡ gives (nameOf l k)
+  pub name-missing : k ≡ 0 → tells nowhere ≡ tells (nameOf l k)
   unfolding nameOf
   name-missing z = rw z
 
@@ -45,14 +48,14 @@ module _ (l : List ℕ) (k : ℕ) where
     place-fits h = record { fits = omega arith }
 
     pub name-placed : (t q : RefT (List ℕ)) → Counted l k → (k ≡ 0 → ⊥) → now t ≡ nameIn x → IsPart q t (sliceCut (now t) Trimmed)
-        → gives (at (length l - length x + headSize, length (now q))) ≡ gives (nameOf l k)
+        → tells (at (length l - length x + headSize, length (now q))) ≡ tells (nameOf l k)
     unfolding nameOf
     name-placed t q c h e i =
         let p : length l - length x ≡ placeOf l (k - 1) = rw ex (record-place l (k - 1) (omega (arith, c .most, h))) in
         let n : length (now q) ≡ trimmedLength (nameIn (recordAt l (k - 1))) = part-trimmed q t i ∙ ap trimmedLength (e ∙ ap nameIn ex) in
         rw (p, n) (go k h)
       where
-        go : (k : ℕ) → (k ≡ 0 → ⊥) → gives (at (placeOf l (k - 1) + headSize, trimmedLength (nameIn (recordAt l (k - 1))))) ≡ gives (nameOf l k)
+        go : (k : ℕ) → (k ≡ 0 → ⊥) → tells (at (placeOf l (k - 1) + headSize, trimmedLength (nameIn (recordAt l (k - 1))))) ≡ tells (nameOf l k)
         go zero h = absurd (h refl)
         go (suc k) h = let z : suc k - 1 ≡ k = omega arith in rw z
 
@@ -64,33 +67,34 @@ pub found-counted : (l : List ℕ) (kind number k : ℕ) → k ≡ recordOf l ki
 found-counted l kind number k e = record { most = rw e (record-of-le l kind number (records l)) }
 
 module _ (l : List ℕ) (kind number : ℕ) (a : LabelCount) (c : labelCounted a ≡ readLabelsRule l) where
-  pub find-list : (k : ℕ) → a ≡ Uncounted k → refused k ≡ findLabelRule l kind number
+  pub find-list : (f : Fault) → a ≡ Uncounted f → refusedAt (f .number) (f .offset) ≡ findLabelRule l kind number
   unfolding findLabelRule
-  find-list k q =
-      let n = answered-refused l a c k q in
-      let f : k ≡ earlier (listRefusal l) (keyRefusal kind number) = n .0 ∙ sym (earlier-found (listRefusal l) (keyRefusal kind number) (rw (n .0) at (n .1))) in
-      outcome-no k _ f (nameOf l (recordOf l kind number (records l))) (n .1)
+  find-list f q =
+      let n = answered-refused l a c f q in
+      let e : f .number ≡ earlier (listRefusal l) (keyRefusal kind number) =
+      n .0 ∙ sym (earlier-found (listRefusal l) (keyRefusal kind number) (rw (n .0) at (n .1 .1))) in
+      told-no (f .number) _ e (f .offset) (faultPlace l) (nameOf l (recordOf l kind number (records l))) (n .1 .0) (n .1 .1)
 
   module _ (n j : ℕ) (q : a ≡ Records n) (e : j ≡ keyRefusal kind number) where
     later : j ≡ earlier (listRefusal l) (keyRefusal kind number)
     later = e ∙ sym (earlier-zero (listRefusal l) (keyRefusal kind number) (answered-good l a c n q))
 
-    pub find-key : (j ≡ 0 → ⊥) → refused j ≡ findLabelRule l kind number
+    pub find-key : (j ≡ 0 → ⊥) → refusedAt j (length l) ≡ findLabelRule l kind number
     unfolding findLabelRule
-    find-key h = outcome-no j _ later (nameOf l (recordOf l kind number (records l))) h
+    find-key h = told-no j _ later (length l) (faultPlace l) (nameOf l (recordOf l kind number (records l))) (sym (good-place l (answered-good l a c n q))) h
 
-    pub find-name : (k : ℕ) (r : Outcome (Sought (ℕ × ℕ))) → j ≡ 0 → k ≡ recordOf l kind number (records l) → r ≡ gives (nameOf l k) → r ≡ findLabelRule l kind number
+    pub find-name : (k : ℕ) (r : Told (Sought (ℕ × ℕ))) → j ≡ 0 → k ≡ recordOf l kind number (records l) → r ≡ tells (nameOf l k) → r ≡ findLabelRule l kind number
     unfolding findLabelRule
-    find-name k r z f x = x ∙ outcome-yes j _ later (nameOf l k) _ z (ap (nameOf l) f)
+    find-name k r z f x = x ∙ told-yes j _ later (faultPlace l) (nameOf l k) _ z (ap (nameOf l) f)
 
 pub ruleset find-laws = (needs, found-counted, find-list, find-key, find-name)
 
 -- ---- in a good list
 
 pub find-good : (l : List ℕ) (kind number : ℕ) → listRefusal l ≡ 0
-    → findLabelRule l kind number ≡ outcome (keyRefusal kind number) (nameOf l (recordOf l kind number (records l)))
+    → findLabelRule l kind number ≡ told (keyRefusal kind number) (length l) (nameOf l (recordOf l kind number (records l)))
 unfolding findLabelRule
-find-good l kind number g = rw (earlier-zero (listRefusal l) (keyRefusal kind number) g)
+find-good l kind number g = rw (earlier-zero (listRefusal l) (keyRefusal kind number) g, good-place l g)
 
 module _ (l : List ℕ) (g : listRefusal l ≡ 0) where
   -- a name lies in its record, and so in the list
@@ -120,7 +124,7 @@ pub place-within : (l : List ℕ) (kind number : ℕ) (q : LabelPlace) → label
     → place + n ≤ length l
 unfolding findLabelRule
 place-within l kind number q e place n f =
-    let g = outcome-gave (earlier (listRefusal l) (keyRefusal kind number)) _ (at (place, n)) (sym e ∙ ap labelPlaced f) in
+    let g = told-gave (earlier (listRefusal l) (keyRefusal kind number)) (faultPlace l) _ (at (place, n)) (sym e ∙ ap labelPlaced f) in
     let z = earlier-none (listRefusal l) (keyRefusal kind number) (g .0) in
     found-within l (z .0) (recordOf l kind number (records l)) place n (record-of-le l kind number (records l)) (g .1)
 
@@ -133,9 +137,9 @@ module _ (r s : RefT (List ℕ)) (kind number : ℕ) (q : LabelPlace) (e : label
   unfolding namePart
   part-missing f i = rw (← e, f) (part-counted r s 0 0 (omega arith) i)
 
-  pub part-refused : (k : ℕ) → q ≡ Unplaced k → IsPart r s (sliceCut (now s) (CountedCut 1 0)) → IsPart r s (namePart (findLabelRule (now s) kind number))
+  pub part-refused : (f : Fault) → q ≡ Unplaced f → IsPart r s (sliceCut (now s) (CountedCut 1 0)) → IsPart r s (namePart (findLabelRule (now s) kind number))
   unfolding namePart
-  part-refused k f i = rw (← e, f) (part-counted r s 0 0 (omega arith) i)
+  part-refused x f i = rw (← e, f) (part-counted r s 0 0 (omega arith) i)
 
 pub part-fits : (l : List ℕ) (kind number : ℕ) (q : LabelPlace) → labelPlaced q ≡ findLabelRule l kind number → (place n : ℕ) → q ≡ Found place n
     → length l * 1 < 2 ^ 63 → (m : ℕ) → m ≤ 9 → Fits w64 (place + m)

@@ -10,13 +10,16 @@ use lib.Seq.{getD-set-same, getD-set-other}
 use mir.Syntax.{w64}
 use mir.Val.{Fits}
 use borrow.Author.Needs.{needs}
-use Rattle.strlib.proofs.Refusing.{bool-case, outcome-no, outcome-yes, outcome-gave, outcome-is}
-use Rattle.strlib.specs.Refusal.{refused, gives, outcome}
+use borrow.Author.Tests.{not-true, not-false}
+use Rattle.strlib.proofs.Refusing.{bool-case}
 use Rattle.records.proofs.Fronts.{body-passes, behind-body, behind-fresh}
 use Rattle.records.proofs.Limits.{in-range}
-use Rattle.records.proofs.Reading.{Reached, reached-start, reached-next, reached-refusal, reached-count, reached-good, record-yes, record-no, fresh-next, fresh-none}
+use Rattle.records.proofs.Reading.{Reached, reached-start, reached-next, reached-refusal, reached-place, reached-count, reached-good, record-yes, record-no, fresh-next, fresh-none}
 use Rattle.records.proofs.Sizes.{size-least}
-use Rattle.records.specs.Record.{recordSize, isNumberOf, kindOf, numberIn, records, isRecord, isFresh, bodyRefusal, behindRefusal, listRefusal}
+use Rattle.records.proofs.Telling.{told-no, told-yes, told-gave, told-is}
+use Rattle.records.specs.Record.{recordSize, isNumberOf, kindOf, numberIn, records, isRecord, isFresh, bodyRefusal, behindRefusal, listRefusal, faultPlace}
+use Rattle.records.specs.Told.{refusedAt, tells}
+use Rattle.records.specs.declared.Fault.{Fault}
 use Rattle.desk.specs.Label.{labelCounted, readLabelsRule}
 use Rattle.desk.specs.LabelInner.{Markable, markOf}
 use Rattle.desk.specs.declared.label.read.LabelCount.{LabelCount}
@@ -60,11 +63,13 @@ none-marked l =
 -- ---- the loop
 
 module _ (l : List ℕ) (n place : ℕ) (r : Reached l n place) (x : List ℕ) (ex : x ≡ drop place l) (k : ℕ) (ek : k ≡ bodyRefusal x) where
-  stop : place < length l → (m : ℕ) → m ≡ behindRefusal (take place l) x → (m ≡ 0 → ⊥) → refused m ≡ readLabelsRule l
+  stop : place < length l → (m : ℕ) → m ≡ behindRefusal (take place l) x → (m ≡ 0 → ⊥) → refusedAt m place ≡ readLabelsRule l
   unfolding readLabelsRule
-  stop h m e f = outcome-no m (listRefusal l) (reached-refusal l n place r h m (rw (← ex) e) f) (records l) f
+  stop h m e f =
+      let b : m ≡ behindRefusal (take place l) (drop place l) = rw (← ex) e in
+      told-no m (listRefusal l) (reached-refusal l n place r h m b f) place (faultPlace l) (records l) (reached-place l n place r h m b f) f
 
-  pub body-faulty : place < length l → (k ≡ 0 → ⊥) → refused k ≡ readLabelsRule l
+  pub body-faulty : place < length l → (k ≡ 0 → ⊥) → refusedAt k place ≡ readLabelsRule l
   body-faulty h f = stop h k (behind-body (take place l) x k ek f) f
 
   module _ (z : k ≡ 0) (kind number : ℕ) (ea : kind ≡ kindOf x) (eb : number ≡ numberIn x) where
@@ -75,7 +80,7 @@ module _ (l : List ℕ) (n place : ℕ) (r : Reached l n place) (x : List ℕ) (
     body-markable = markable kind number numbered
 
     -- only the repetition is left to decide
-    left : behindRefusal (take place l) x ≡ cond (isFresh (take place l) kind number) 0 11
+    left : behindRefusal (take place l) x ≡ cond (isFresh (take place l) kind number) 0 14
     left = behind-fresh (take place l) x (sym ek ∙ z) ∙ rw (ea, eb)
 
     module _ (m : ℕ) (em : m ≡ markOf kind number) where
@@ -86,21 +91,13 @@ module _ (l : List ℕ) (n place : ℕ) (r : Reached l n place) (x : List ℕ) (
         is : not (isFresh (take place l) kind number) ≡ getD met m false
         is = rw em (sym (g .marks kind number numbered))
 
-        pub mark-faulty : place < length l → getD met m false ≡ true → refused 11 ≡ readLabelsRule l
+        pub mark-faulty : place < length l → getD met m false ≡ true → refusedAt 14 place ≡ readLabelsRule l
         mark-faulty h t =
-            stop h 11 (sym (left ∙ ap (λ (b : Bool). cond b 0 11) (turned (isFresh (take place l) kind number) (is ∙ t)))) (λ (y : _≡_ {A = ℕ} 11 0). omega arith)
-          where
-            turned : (b : Bool) → not b ≡ true → b ≡ false
-            turned true e = sym e
-            turned false e = refl
+            stop h 14 (sym (left ∙ ap (λ (b : Bool). cond b 0 14) (not-true (isFresh (take place l) kind number) (is ∙ t)))) (λ (y : _≡_ {A = ℕ} 14 0). omega arith)
 
         module _ (t : getD met m false ≡ false) where
           new : behindRefusal (take place l) (drop place l) ≡ 0
-          new = rw (← ex) (left ∙ ap (λ (b : Bool). cond b 0 11) (turned (isFresh (take place l) kind number) (is ∙ t)))
-            where
-              turned : (b : Bool) → not b ≡ false → b ≡ true
-              turned true e = refl
-              turned false e = sym e
+          new = rw (← ex) (left ∙ ap (λ (b : Bool). cond b 0 14) (not-false (isFresh (take place l) kind number) (is ∙ t)))
 
           module _ (size : ℕ) (es : size ≡ recordSize kind) where
             size-is : size ≡ recordSize (kindOf (drop place l))
@@ -139,9 +136,9 @@ module _ (l : List ℕ) (n place : ℕ) (r : Reached l n place) (x : List ℕ) (
             pub count-fits : length l * 1 < 2 ^ 63 → Fits w64 (n + 1)
             count-fits h = record { fits = omega (arith, r .within, r .small) }
 
-pub read-good : (l : List ℕ) (n place : ℕ) → Reached l n place → length l ≤ place → gives n ≡ readLabelsRule l
+pub read-good : (l : List ℕ) (n place : ℕ) → Reached l n place → length l ≤ place → tells n ≡ readLabelsRule l
 unfolding readLabelsRule
-read-good l n place r h = outcome-yes 0 (listRefusal l) (reached-good l n place r h) n (records l) refl (reached-count l n place r h)
+read-good l n place r h = told-yes 0 (listRefusal l) (reached-good l n place r h) (faultPlace l) n (records l) refl (reached-count l n place r h)
 
 pub ruleset read-laws = (
   needs,
@@ -161,20 +158,11 @@ pub ruleset read-laws = (
 
 -- ---- what the reader answered
 
-refused-some : (m x k : ℕ) → outcome m x ≡ refused k → k ≡ 0 → ⊥
-refused-some m x k f z =
-    let y : 0 ≡ m = sym (outcome-is m x k f ∙ z) in
-    let w : gives x ≡ refused k = outcome-yes 0 m y x x refl refl ∙ f in
-    let v : _≡_ {A = ℕ} 0 1 = cc in
-    omega arith
-
 module _ (l : List ℕ) (a : LabelCount) (e : labelCounted a ≡ readLabelsRule l) where
   pub answered-good : (n : ℕ) → a ≡ Records n → listRefusal l ≡ 0
   unfolding readLabelsRule
-  answered-good n q = outcome-gave (listRefusal l) (records l) n (sym e ∙ ap labelCounted q) .0
+  answered-good n q = told-gave (listRefusal l) (faultPlace l) (records l) n (sym e ∙ ap labelCounted q) .0
 
-  pub answered-refused : (k : ℕ) → a ≡ Uncounted k → (k ≡ listRefusal l) × (k ≡ 0 → ⊥)
+  pub answered-refused : (f : Fault) → a ≡ Uncounted f → (f .number ≡ listRefusal l) × ((f .offset ≡ faultPlace l) × (f .number ≡ 0 → ⊥))
   unfolding readLabelsRule
-  answered-refused k q =
-      let f : outcome (listRefusal l) (records l) ≡ refused k = sym e ∙ ap labelCounted q in
-      (sym (outcome-is (listRefusal l) (records l) k f), refused-some (listRefusal l) (records l) k f)
+  answered-refused f q = told-is (listRefusal l) (faultPlace l) (records l) (f .number) (f .offset) (sym e ∙ ap labelCounted q)

@@ -4,9 +4,8 @@ use mathlib.Core.List.{List, _++_}
 use Prim.Native.Nat.{ℕ, suc, _+_, _-_}
 use native.Mathlib.Omega.{arith}
 use lib.ListN.{length, take, length-append, length-take}
-use Rattle.strlib.proofs.Refusing.{outcome-yes, ruled-gave}
 use Rattle.strlib.proofs.Storing.{put-head}
-use Rattle.strlib.specs.Refusal.{gives, at, outcome}
+use Rattle.strlib.specs.Refusal.{at}
 use Rattle.strlib.specs.Store.{put}
 use Rattle.cutting.specs.Cutting.{trimmedLength}
 use Rattle.records.proofs.Adding.{added-good, added-records, added-place, added-name, added-record, added-other, added-text}
@@ -14,15 +13,22 @@ use Rattle.records.proofs.Bytes.{label-length}
 use Rattle.records.proofs.Checking.{Writable, key-good}
 use Rattle.records.proofs.Likeness.{record-of-le}
 use Rattle.records.proofs.Limits.{padded-trimmed}
-use Rattle.records.specs.Record.{headSize, widthOf, recordSize, records, recordOf, listRefusal, keyRefusal, labelBytes}
+use Rattle.records.proofs.Telling.{told-no, told-yes, ruled-at-gave}
+use Rattle.records.specs.Record.{headSize, widthOf, recordSize, records, recordOf, listRefusal, faultPlace, keyRefusal, labelBytes}
+use Rattle.records.specs.Told.{refusedAt, tells, told}
 use Rattle.desk.proofs.LabelAdding.{Adding, adding}
 use Rattle.desk.proofs.LabelFinding.{find-good, name-stays}
-use Rattle.desk.specs.Label.{readLabelsRule, nameOf, findLabelRule, addRefusal, addRule}
+use Rattle.desk.specs.Label.{readLabelsRule, nameOf, findLabelRule, addRefusal, addPlace, addRule}
 use Rattle.desk.specs.LabelWritten.{Written, WrittenReads}
 
-pub read-good : (l : List ℕ) → listRefusal l ≡ 0 → readLabelsRule l ≡ gives (records l)
+pub read-good : (l : List ℕ) → listRefusal l ≡ 0 → readLabelsRule l ≡ tells (records l)
 unfolding readLabelsRule
-read-good l g = sym (outcome-yes 0 (listRefusal l) (sym g) (records l) (records l) refl refl)
+read-good l g = sym (told-yes 0 (listRefusal l) (sym g) (faultPlace l) (records l) (records l) refl refl)
+
+-- a kind and number that may not be asked for
+pub find-refused : (l : List ℕ) → listRefusal l ≡ 0 → (k m : ℕ) → (keyRefusal k m ≡ 0 → ⊥) → findLabelRule l k m ≡ refusedAt (keyRefusal k m) (length l)
+find-refused l g k m h =
+    find-good l k m g ∙ sym (told-no (keyRefusal k m) (keyRefusal k m) refl (length l) (length l) (nameOf l (recordOf l k m (records l))) refl h)
 
 module _ (l : List ℕ) (room kind number : ℕ) (name : List ℕ) (w : Writable l room kind number name) (g : listRefusal l ≡ 0) where
   abbrev rec : List ℕ
@@ -31,20 +37,21 @@ module _ (l : List ℕ) (room kind number : ℕ) (name : List ℕ) (w : Writable
   good : listRefusal (l ++ rec) ≡ 0
   good = added-good l room kind number name w g
 
-  read-is : readLabelsRule (l ++ rec) ≡ gives (suc (records l))
-  read-is = read-good (l ++ rec) good ∙ ap gives (added-records l room kind number name w g)
+  read-is : readLabelsRule (l ++ rec) ≡ tells (suc (records l))
+  read-is = read-good (l ++ rec) good ∙ ap tells (added-records l room kind number name w g)
 
-  find-is : findLabelRule (l ++ rec) kind number ≡ gives (at (length l + headSize, trimmedLength name))
+  find-is : findLabelRule (l ++ rec) kind number ≡ tells (at (length l + headSize, trimmedLength name))
   unfolding nameOf
   find-is =
       find-good (l ++ rec) kind number good
       ∙ rw (added-record l room kind number name w g, added-place l room kind number name w g, added-name l room kind number name w g, padded-trimmed (widthOf kind) name)
-      (sym (outcome-yes 0 (keyRefusal kind number) (sym (key-good kind number (w .kinds) (w .numbers))) _ _ refl refl))
+      (sym (told-yes 0 (keyRefusal kind number) (sym (key-good kind number (w .kinds) (w .numbers))) _ _ _ refl refl))
 
-  other-is : (k m : ℕ) → ((k ≡ kind) × (m ≡ number) → ⊥) → findLabelRule (l ++ rec) k m ≡ findLabelRule l k m
-  other-is k m h =
-      rw (find-good (l ++ rec) k m good, find-good l k m g, added-other l room kind number name w g k m h)
-      (ap (outcome (keyRefusal k m)) (name-stays l g rec (recordOf l k m (records l)) (record-of-le l k m (records l))))
+  other-is : (k m : ℕ) → keyRefusal k m ≡ 0 → ((k ≡ kind) × (m ≡ number) → ⊥) → findLabelRule (l ++ rec) k m ≡ findLabelRule l k m
+  unfolding told
+  other-is k m z h =
+      rw (find-good (l ++ rec) k m good, find-good l k m g, z, added-other l room kind number name w g k m h)
+      (ap tells (name-stays l g rec (recordOf l k m (records l)) (record-of-le l k m (records l))))
 
 -- ---- the theorem
 
@@ -52,10 +59,13 @@ module _ (b : List ℕ) (n kind number : ℕ) (name : List ℕ) (a : Adding b n 
   front-length : length (take n b) ≡ n
   front-length = rw length-take (omega (arith, a .within))
 
+  list-length : length (take n b ++ labelBytes kind number name) ≡ n + recordSize kind
+  list-length = rw length-append (omega (arith, front-length, label-length kind number name (a .new .short)))
+
   list-is : take (n + recordSize kind) (put b n (labelBytes kind number name)) ≡ take n b ++ labelBytes kind number name
   list-is =
       put-head b n (labelBytes kind number name) (n + recordSize kind)
-      (rw length-append (omega (arith, front-length, label-length kind number name (a .new .short))))
+      (omega (arith, list-length))
 
   adding-reads : Written b n kind number name (n + recordSize kind) (put b n (labelBytes kind number name))
   adding-reads =
@@ -66,12 +76,16 @@ module _ (b : List ℕ) (n kind number : ℕ) (name : List ℕ) (a : Adding b n 
         after = rw list-is (read-is l r kind number name (a .new) (a .good));
         found = rw list-is (rw front-length at (find-is l r kind number name (a .new) (a .good)));
         text = rw list-is (rw front-length at (added-text l r kind number name (a .new) (a .good)));
-        others = λ k m h. rw list-is (other-is l r kind number name (a .new) (a .good) k m h);
+        others = λ k m z h. rw list-is (other-is l r kind number name (a .new) (a .good) k m z h);
+        refusals = λ k m h. (
+          rw front-length at (find-refused l (a .good) k m h),
+          rw list-is (rw list-length at (find-refused (l ++ labelBytes kind number name) (good l r kind number name (a .new) (a .good)) k m h)),
+        );
       }
 
 pub written-reads : WrittenReads
 unfolding addRule
 written-reads b n kind number name n′ b′ q =
-    let g = ruled-gave (addRefusal b n kind number name) (n + recordSize kind) n′ (put b n (labelBytes kind number name)) b (ap (λ z. z .0) q) in
+    let g = ruled-at-gave (addRefusal b n kind number name) (addPlace b n) (n + recordSize kind) n′ (put b n (labelBytes kind number name)) b (ap (λ z. z .0) q) in
     let s : b′ ≡ put b n (labelBytes kind number name) = sym (ap (λ z. z .1) q) ∙ g .1 .1 in
     rw (← (g .1 .0), s) (adding-reads b n kind number name (adding b n kind number name (g .0)))

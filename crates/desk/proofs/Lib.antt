@@ -2,6 +2,7 @@ pub mod CueNumbers
 pub mod CueWords
 pub mod CueReading
 pub mod CueGiven
+pub mod CueWording
 pub mod LabelReading
 pub mod LabelFinding
 pub mod LabelAdding

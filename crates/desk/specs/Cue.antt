@@ -1,8 +1,8 @@
--- Cue lines: 01, "Cue lines and labels". `MIC n TO LSP m GAIN g` is seven words; the line is its own store. Assumes
--- nothing.
+-- Cue lines: 01, "Cue lines and labels", and the word that comes with 11: 02, W2. `MIC n TO LSP m GAIN g` is seven
+-- words; the line is its own store. Assumes nothing.
 use Prim.Native.Nat.{ℕ, _-_, _≤_}
 use mathlib.Core.Path.{_≡_}
-use mathlib.Core.Bool.{Bool, true, _&&_}
+use mathlib.Core.Bool.{Bool, true, cond, _&&_}
 use mathlib.Core.List.{List, [], _∷_, _++_}
 use lib.Dec.{eqb, leb}
 use lib.IntN.{ℤ, pos, negsuc, natAbs}
@@ -21,17 +21,38 @@ use Rattle.desk.specs.declared.cue.CueAnswer.the-variants.{Cue as Given,
 -- the paper's value for each case of the answer
 abbrev pub cueAnswered : CueAnswer → Outcome Cue
 cueAnswered (Given c) = gives c
-cueAnswered (Refused n) = refused n
+cueAnswered (Refused f) = refused (f .number)
+
+-- the word number that comes with it
+abbrev pub wordOf : CueAnswer → ℕ
+wordOf (Given c) = 0
+wordOf (Refused f) = f .word
 
 -- word k of a line, counted from 1; the empty text where there is none
 abbrev pub word : List ℕ → ℕ → List ℕ
 word line k = getD (words line) (k - 1) []
 
+-- the words by their numbers, each with what has to hold: a fixed word is itself, a number's word is there, and there is
+-- no eighth
+abbrev pub placeChecks : List ℕ → List (ℕ × Bool)
+placeChecks line =
+    (1, same (word line 1) (bytes "MIC"))
+    ∷ (2, leb 1 (length (word line 2)))
+    ∷ (3, same (word line 3) (bytes "TO"))
+    ∷ (4, same (word line 4) (bytes "LSP"))
+    ∷ (5, leb 1 (length (word line 5)))
+    ∷ (6, same (word line 6) (bytes "GAIN"))
+    ∷ (7, leb 1 (length (word line 7)))
+    ∷ (8, leb (length (words line)) 7)
+    ∷ []
+
+-- the first wrong or missing word, 8 for one too many, 0 for none
+unfoldable pub wrongWord : List ℕ → ℕ
+wrongWord line = first (placeChecks line)
+
 -- seven words, the fixed ones in their places
 unfoldable pub formed : List ℕ → Bool
-formed line =
-    eqb (length (words line)) 7
-    && ((same (word line 1) (bytes "MIC") && same (word line 3) (bytes "TO")) && (same (word line 4) (bytes "LSP") && same (word line 6) (bytes "GAIN")))
+formed line = eqb (wrongWord line) 0
 
 -- the three numbers, in base 10
 abbrev pub micWord : List ℕ → List ℕ
@@ -87,6 +108,15 @@ cueOf n m g = record { microphone = natAbs n; loudspeaker = natAbs m; gain = g }
 unfoldable pub cueRule : List ℕ → ℕ → ℕ → Outcome Cue
 cueRule line mics lsps =
     outcome (cueRefusal line mics lsps) (cueOf (numberOf 10 (micWord line)) (numberOf 10 (lspWord line)) (numberOf 10 (gainWord line)))
+
+-- the word that comes with it: with 11, 0 for a line over 80 characters, else the first wrong or missing one; with every
+-- other number and with a cue, 0
+unfoldable pub cueWord : List ℕ → ℕ → ℕ → ℕ
+cueWord line mics lsps = cond (eqb (cueRefusal line mics lsps) 11) (cond (leb (length line) 80) (wrongWord line) 0) 0
+
+-- the answer with its word
+abbrev pub cueWordRule : List ℕ → ℕ → ℕ → Outcome Cue × ℕ
+cueWordRule line mics lsps = (cueRule line mics lsps, cueWord line mics lsps)
 
 -- a cue that is given lies in the matrix, and its gain in the range
 pub record Reaches (mics lsps : ℕ) (c : Cue) : Type 0 where

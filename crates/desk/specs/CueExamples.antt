@@ -12,14 +12,14 @@ use Rattle.strlib.specs.Refusal.{Outcome, refused, gives, outcome}
 use Rattle.words.specs.Ends.{upTo}
 use Rattle.words.specs.Words.{wordsIn, same}
 use Rattle.desk.specs.declared.cue.Cue.{Cue}
-use Rattle.desk.specs.Cue.{formed, isSize, isIndex, isGain, cueRefusal, cueOf, cueRule}
+use Rattle.desk.specs.Cue.{wrongWord, formed, isSize, isIndex, isGain, cueRefusal, cueOf, cueRule, cueWord, cueWordRule}
 
--- the program's matrix
-abbrev pub answerTo : List ℕ → Outcome Cue
-answerTo line = cueRule line 64 128
+-- the program's matrix: the answer, and the word that comes with it
+abbrev pub answerTo : List ℕ → Outcome Cue × ℕ
+answerTo line = cueWordRule line 64 128
 
-abbrev pub cue : ℕ → ℕ → ℤ → Outcome Cue
-cue n m g = gives (record { microphone = n; loudspeaker = m; gain = g })
+abbrev pub cue : ℕ → ℕ → ℤ → Outcome Cue × ℕ
+cue n m g = (gives (record { microphone = n; loudspeaker = m; gain = g }), 0)
 
 -- a good line of 80 characters
 abbrev pub full : List ℕ
@@ -28,24 +28,25 @@ full = bytes "   MIC       0000000000007  TO     LSP    00000000000000031    GAI
 pub record Examples : Type 0 where
   -- 01's three lines
   pub ok : answerTo (bytes "MIC 7 TO LSP 31 GAIN -120") ≡ cue 7 31 (negsuc 119)
-  pub outside : answerTo (bytes "MIC 65 TO LSP 1 GAIN 0") ≡ refused 12
-  pub short : answerTo (bytes "MIC 7 TO LSP") ≡ refused 11
-  -- 7 or 8 from left to right
-  pub seven-first : answerTo (bytes "MIC x TO LSP 34359738368 GAIN 0") ≡ refused 7
-  -- 80 characters, and 81
-  pub at-most : answerTo full ≡ cue 7 31 (negsuc 119)
-  pub too-long : answerTo (full ++ (32 ∷ [])) ≡ refused 11
+  pub outside : answerTo (bytes "MIC 65 TO LSP 1 GAIN 0") ≡ (refused 12, 0)
+  pub short : answerTo (bytes "MIC 7 TO LSP") ≡ (refused 11, 5)
+  -- by place: word 2 is there, and word 3 should be TO
+  pub by-place : answerTo (bytes "MIC TO LSP 3 GAIN 0") ≡ (refused 11, 3)
+  -- the first wrong word before one too many
+  pub not-eight : answerTo (bytes "MIC 7 TO LSP 31 gain 0 0") ≡ (refused 11, 6)
+  -- 81 characters, whatever the words are
+  pub too-long : answerTo (full ++ (32 ∷ [])) ≡ (refused 11, 0)
 
 pub examples : Examples
 unfolding
-    storeFits all characters outcome upTo wordsIn same inRange unblanked minus unsigned isDigit areDigits isNumber value signed numberOf formed isSize isIndex
-    isGain cueRefusal cueOf cueRule
+    storeFits all characters outcome upTo wordsIn same inRange unblanked minus unsigned isDigit areDigits isNumber value signed numberOf wrongWord formed
+    isSize isIndex isGain cueRefusal cueOf cueRule cueWord
 examples =
     record {
       ok = refl;
       outside = refl;
       short = refl;
-      seven-first = refl;
-      at-most = refl;
+      by-place = refl;
+      not-eight = refl;
       too-long = refl;
     }

@@ -17,6 +17,10 @@ unfoldable pub indexOf : ℕ → ℤ → ℕ
 indexOf most (pos n) = cond (leb n most) n 0
 indexOf most (negsuc n) = 0
 
+-- an answer that comes without a word
+abbrev pub wordless : Outcome Cue → Outcome Cue × ℕ
+wordless o = (o, 0)
+
 -- three numbers against the matrix
 unfoldable pub inMatrix : ℕ → ℕ → ℤ → ℤ → ℤ → Outcome Cue
 inMatrix mics lsps n m g = outcome (first (matrixChecks mics lsps n m g)) (cueOf n m g)

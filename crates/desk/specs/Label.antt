@@ -1,16 +1,18 @@
--- The label list: 01, "Cue lines and labels", second paragraph. Its records, and what they are refused with, are
--- `records`'. Assumes nothing.
+-- The label list: 01, "Cue lines and labels", second paragraph, and 02, W2: every refusal comes with an offset. Its
+-- records, what they are refused with, and the faulty record's place are `records`'. Assumes nothing.
 use Prim.Native.Nat.{ℕ, zero, suc, _+_, _-_}
 use mathlib.Core.Bool.{cond}
 use mathlib.Core.List.{List}
 use lib.Dec.{leb}
 use lib.ListN.{length, take}
 use Rattle.strlib.specs.Pointer.{pointer}
-use Rattle.strlib.specs.Refusal.{Outcome, refused, gives, Sought, nowhere, at, outcome, ruled}
+use Rattle.strlib.specs.Refusal.{Sought, nowhere, at}
 use Rattle.strlib.specs.Store.{put}
 use Rattle.strlib.specs.declared.StrPtr.{StrPtr}
 use Rattle.cutting.specs.Cutting.{trimmedLength}
-use Rattle.records.specs.Record.{headSize, recordSize, nameIn, placeOf, recordAt, records, recordOf, earlier, listRefusal, keyRefusal, newRefusal, labelBytes}
+use Rattle.records.specs.Record.{headSize, recordSize, nameIn, placeOf, recordAt, records, recordOf, earlier, listRefusal, faultPlace}
+use Rattle.records.specs.Record.{keyRefusal, newRefusal, labelBytes}
+use Rattle.records.specs.Told.{Told, refusedAt, tells, told, ruledAt}
 use Rattle.desk.specs.declared.label.read.LabelCount.{LabelCount}
 use Rattle.desk.specs.declared.label.read.LabelCount.the-variants.{Records, Refused as Uncounted}
 use Rattle.desk.specs.declared.label.find.LabelPlace.{LabelPlace}
@@ -20,13 +22,13 @@ use Rattle.desk.specs.declared.label.add.LabelAdded.the-variants.{Added,
 
 -- ---- the reader
 
-unfoldable pub readLabelsRule : List ℕ → Outcome ℕ
-readLabelsRule l = outcome (listRefusal l) (records l)
+unfoldable pub readLabelsRule : List ℕ → Told ℕ
+readLabelsRule l = told (listRefusal l) (faultPlace l) (records l)
 
 -- the paper's value for each case of the answer
-abbrev pub labelCounted : LabelCount → Outcome ℕ
-labelCounted (Records n) = gives n
-labelCounted (Uncounted n) = refused n
+abbrev pub labelCounted : LabelCount → Told ℕ
+labelCounted (Records n) = tells n
+labelCounted (Uncounted f) = refusedAt (f .number) (f .offset)
 
 -- ---- the lookup
 
@@ -35,20 +37,22 @@ unfoldable pub nameOf : List ℕ → ℕ → Sought (ℕ × ℕ)
 nameOf l zero = nowhere
 nameOf l (suc k) = at (placeOf l k + headSize, trimmedLength (nameIn (recordAt l k)))
 
-unfoldable pub findLabelRule : List ℕ → ℕ → ℕ → Outcome (Sought (ℕ × ℕ))
-findLabelRule l kind number = outcome (earlier (listRefusal l) (keyRefusal kind number)) (nameOf l (recordOf l kind number (records l)))
+-- a kind or number that is asked for and is none is no record's fault: it comes with the list's length
+unfoldable pub findLabelRule : List ℕ → ℕ → ℕ → Told (Sought (ℕ × ℕ))
+findLabelRule l kind number =
+    told (earlier (listRefusal l) (keyRefusal kind number)) (faultPlace l) (nameOf l (recordOf l kind number (records l)))
 
-abbrev pub labelPlaced : LabelPlace → Outcome (Sought (ℕ × ℕ))
-labelPlaced (Found place n) = gives (at (place, n))
-labelPlaced Missing = gives nowhere
-labelPlaced (Unplaced n) = refused n
+abbrev pub labelPlaced : LabelPlace → Told (Sought (ℕ × ℕ))
+labelPlaced (Found place n) = tells (at (place, n))
+labelPlaced Missing = tells nowhere
+labelPlaced (Unplaced f) = refusedAt (f .number) (f .offset)
 
 -- the part that the read-only form cuts, as a string that fills its room: the empty part at the list's front on a
 -- refusal or no record
-unfoldable pub namePart : Outcome (Sought (ℕ × ℕ)) → StrPtr
-namePart (refused n) = pointer 0 0 0
-namePart (gives nowhere) = pointer 0 0 0
-namePart (gives (at (place, n))) = pointer place n n
+unfoldable pub namePart : Told (Sought (ℕ × ℕ)) → StrPtr
+namePart (refusedAt n offset) = pointer 0 0 0
+namePart (tells nowhere) = pointer 0 0 0
+namePart (tells (at (place, n))) = pointer place n n
 
 -- ---- the writer
 
@@ -56,10 +60,15 @@ namePart (gives (at (place, n))) = pointer place n n
 unfoldable pub addRefusal : List ℕ → ℕ → ℕ → ℕ → List ℕ → ℕ
 addRefusal b n kind number name = cond (leb n (length b)) (earlier (listRefusal (take n b)) (newRefusal (take n b) (length b - n) kind number name)) 4
 
--- the new length of the list, and the buffer, in which all other bytes stay
-unfoldable pub addRule : List ℕ → ℕ → ℕ → ℕ → List ℕ → Outcome ℕ × List ℕ
-addRule b n kind number name = ruled (addRefusal b n kind number name) (n + recordSize kind) (put b n (labelBytes kind number name)) b
+-- its offset: the list's length is n, also where the buffer has not so many bytes
+unfoldable pub addPlace : List ℕ → ℕ → ℕ
+addPlace b n = cond (leb n (length b)) (faultPlace (take n b)) n
 
-abbrev pub labelAdded : LabelAdded → Outcome ℕ
-labelAdded (Added n) = gives n
-labelAdded (Unadded n) = refused n
+-- the new length of the list, and the buffer, in which all other bytes stay
+unfoldable pub addRule : List ℕ → ℕ → ℕ → ℕ → List ℕ → Told ℕ × List ℕ
+addRule b n kind number name =
+    ruledAt (addRefusal b n kind number name) (addPlace b n) (n + recordSize kind) (put b n (labelBytes kind number name)) b
+
+abbrev pub labelAdded : LabelAdded → Told ℕ
+labelAdded (Added n) = tells n
+labelAdded (Unadded f) = refusedAt (f .number) (f .offset)

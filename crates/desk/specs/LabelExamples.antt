@@ -5,13 +5,15 @@ use mathlib.Core.List.{List, [], _∷_, _++_}
 use lib.ListN.{replicate}
 use Rattle.strlib.specs.Quoted.{bytes}
 use Rattle.strlib.specs.Pointer.{pointer, textOf, all}
-use Rattle.strlib.specs.Refusal.{refused, gives, at, outcome, after, ruled}
+use Rattle.strlib.specs.Refusal.{after}
 use Rattle.strlib.specs.Store.{put}
 use Rattle.cutting.specs.Cutting.{isBlank, trimmedLength}
-use Rattle.records.specs.Walk.{lastOf}
+use Rattle.records.specs.Told.{refusedAt, tells, told, ruledAt}
+use Rattle.records.specs.Walk.{lastOf, leadOf}
 use Rattle.records.specs.Record.{widthOf, recordSize, limitOf, isKind, isNumberOf, isName, kindOf, numberIn, nameIn, placeOf, recordAt, records, isRecord, recordOf}
-use Rattle.records.specs.Record.{isFresh, bodyRefusal, behindRefusal, recordRefusal, earlier, faultIn, listRefusal, keyRefusal, newRefusal, padded, labelBytes}
-use Rattle.desk.specs.Label.{readLabelsRule, nameOf, findLabelRule, namePart, addRefusal, addRule}
+use Rattle.records.specs.Record.{isFresh, bodyRefusal, behindRefusal, recordRefusal, earlier, faultIn, listRefusal, soundIn, faultPlace}
+use Rattle.records.specs.Record.{keyRefusal, newRefusal, padded, labelBytes}
+use Rattle.desk.specs.Label.{readLabelsRule, nameOf, findLabelRule, namePart, addRefusal, addPlace, addRule}
 
 -- microphone 7 and loudspeaker 31
 abbrev pub cello : List ℕ
@@ -20,39 +22,34 @@ cello = (1 ∷ 0 ∷ 7 ∷ []) ++ bytes "CELLO           "
 abbrev pub stalls : List ℕ
 stalls = (2 ∷ 0 ∷ 31 ∷ []) ++ bytes "STALLS LEFT     "
 
--- a record whose name has one byte and else blanks
-abbrev pub oneByte : ℕ → ℕ → ℕ → ℕ → List ℕ
-oneByte kind high low x = (kind ∷ high ∷ low ∷ x ∷ []) ++ replicate 15 32
-
 -- a buffer of one record and two bytes more than a second one
 abbrev pub buffer : List ℕ
 buffer = cello ++ replicate 21 0
 
 pub record Examples : Type 0 where
-  -- the reader
-  pub two : readLabelsRule (cello ++ stalls) ≡ gives 2
-  -- one kind and number twice
-  pub repeated : readLabelsRule (cello ++ oneByte 1 0 7 65) ≡ refused 11
-  -- the first faulty record before all others
-  pub first-record : readLabelsRule (oneByte 1 0 1 127 ++ oneByte 3 0 0 127) ≡ refused 2
-  -- the lookup, which gives the place from 0 and the trimmed length
-  pub found : findLabelRule (cello ++ stalls) 2 31 ≡ gives (at (22, 11))
+  -- a short body and a repeated kind and number, with the offset of the record's kind byte
+  pub short : readLabelsRule (cello ++ stalls ++ (1 ∷ 255 ∷ [])) ≡ refusedAt 13 38
+  pub repeated : readLabelsRule (cello ++ cello) ≡ refusedAt 14 19
+  -- a kind that is none, asked for in a good list: with the list's length
+  pub no-kind : findLabelRule cello 257 7 ≡ refusedAt 11 19
   -- the writer
-  pub added : addRule buffer 19 2 31 (bytes "STALLS LEFT") ≡ (gives 38, cello ++ stalls ++ replicate 2 0)
-  -- room for 18 bytes, one too few
-  pub add-room : addRule (cello ++ replicate 18 0) 19 1 8 (replicate 16 126) ≡ (refused 6, cello ++ replicate 18 0)
+  pub added : addRule buffer 19 2 31 (bytes "STALLS LEFT") ≡ (tells 38, cello ++ stalls ++ replicate 2 0)
+  -- not with the offset of the record that is there
+  pub add-repeated : addRule buffer 19 1 7 (bytes "VIOLA") ≡ (refusedAt 14 19, buffer)
+  -- a length over the buffer's comes back itself
+  pub add-length : addRule cello 20 1 8 (bytes "VIOLA") ≡ (refusedAt 4 20, cello)
 
 pub examples : Examples
 unfolding
-    lastOf widthOf recordSize limitOf isKind isNumberOf isName kindOf numberIn nameIn placeOf recordAt records isRecord recordOf isFresh bodyRefusal behindRefusal
-    recordRefusal earlier faultIn listRefusal keyRefusal newRefusal padded labelBytes readLabelsRule nameOf findLabelRule namePart addRefusal addRule pointer textOf all
-    outcome after ruled put isBlank trimmedLength
+    lastOf leadOf widthOf recordSize limitOf isKind isNumberOf isName kindOf numberIn nameIn placeOf recordAt records isRecord recordOf isFresh bodyRefusal
+    behindRefusal recordRefusal earlier faultIn listRefusal soundIn faultPlace keyRefusal newRefusal padded labelBytes readLabelsRule nameOf findLabelRule namePart
+    addRefusal addPlace addRule pointer textOf all told after ruledAt put isBlank trimmedLength
 examples =
     record {
-      two = refl;
+      short = refl;
       repeated = refl;
-      first-record = refl;
-      found = refl;
+      no-kind = refl;
       added = refl;
-      add-room = refl;
+      add-repeated = refl;
+      add-length = refl;
     }

@@ -1,5 +1,6 @@
 pub mod Cue
 pub mod CueInner
+pub mod CueWord
 pub mod CueExamples
 pub mod Label
 pub mod LabelInner

@@ -5,8 +5,8 @@ ghost use mathlib.Core.Path.{_≡_};
 ghost use Rattle.number.specs.Number.{numberAnswered};
 ghost use Rattle.strlib.specs.Pointer.{textOf};
 ghost use Rattle.words.specs.Words.{same, firstWords};
-ghost use Rattle.desk.specs.Cue.{isSize, isGain, formed, cueAnswered, cueRule};
-ghost use Rattle.desk.specs.CueInner.{indexOf, inMatrix, inOrder, lineRefusal};
+ghost use Rattle.desk.specs.Cue.{isSize, isGain, wrongWord, cueAnswered, wordOf, cueWordRule};
+ghost use Rattle.desk.specs.CueInner.{indexOf, wordless, inMatrix, inOrder, lineRefusal};
 
 // What microphone goes to what loudspeaker, and how loud, in tenths of a decibel.
 pub struct Cue {
@@ -15,9 +15,16 @@ pub struct Cue {
     pub gain: i64,
 }
 
+// What a line is refused with: the refusal's number, and with 11 the number of the first wrong or missing word, 8 for
+// one word too many, 0 for a line that is too long. With every other number the word is 0.
+pub struct CueFault {
+    pub number: u8,
+    pub word: u8,
+}
+
 pub enum CueAnswer {
     Cue(Cue),
-    Refused(u8),
+    Refused(CueFault),
 }
 
 impl Cue {
@@ -63,21 +70,20 @@ fn is_word(line: &[u8], word: StrPtr, fixed: &[u8]) -> bool
     words::are_same(strlib::text(line, word), fixed)
 }
 
-// Whether these are seven words, the fixed ones in their places.
-fn has_form(line: &[u8], list: CueWords) -> bool
+// The first of these words that is wrong or missing, from 1; 8 for one too many, 0 for none. What stands in a number's
+// place is not read here.
+fn wrong_word(line: &[u8], list: CueWords) -> u8
     requires { ⌜ list ≡ firstWords 8 (now line) 0 ⌝ }
-    ensures { λ r. ⌜ r ≡ formed (now (line .entry)) ⌝ }
+    ensures { λ r. ⌜ r ≡ wrongWord (now (line .entry)) ⌝ }
 {
-    let seven = strlib::both(0 < list[6].length, list[7].length == 0);
-    let front = strlib::both(
-        is_word(line, list[0], b"MIC"),
-        is_word(line, list[2], b"TO"),
-    );
-    let back = strlib::both(
-        is_word(line, list[3], b"LSP"),
-        is_word(line, list[5], b"GAIN"),
-    );
-    strlib::both(seven, strlib::both(front, back))
+    let found = strlib::check(0, 1, is_word(line, list[0], b"MIC"));
+    let found = strlib::check(found, 2, 1 <= list[1].length);
+    let found = strlib::check(found, 3, is_word(line, list[2], b"TO"));
+    let found = strlib::check(found, 4, is_word(line, list[3], b"LSP"));
+    let found = strlib::check(found, 5, 1 <= list[4].length);
+    let found = strlib::check(found, 6, is_word(line, list[5], b"GAIN"));
+    let found = strlib::check(found, 7, 1 <= list[6].length);
+    strlib::check(found, 8, list[7].length == 0)
 }
 
 fn is_size(size: usize, most: usize) -> bool
@@ -118,7 +124,7 @@ fn is_gain(value: i64) -> bool
 }
 
 fn in_matrix(mics: usize, lsps: usize, n: i64, m: i64, g: i64) -> CueAnswer
-    ensures { λ r. ⌜ cueAnswered r ≡ inMatrix mics lsps n m g ⌝ }
+    ensures { λ r. ⌜ (cueAnswered r, wordOf r) ≡ wordless (inMatrix mics lsps n m g) ⌝ }
 {
     let microphone = index_of(n, mics);
     let loudspeaker = index_of(m, lsps);
@@ -130,7 +136,10 @@ fn in_matrix(mics: usize, lsps: usize, n: i64, m: i64, g: i64) -> CueAnswer
             gain: g,
         });
     }
-    CueAnswer::Refused(12)
+    CueAnswer::Refused(CueFault {
+        number: 12,
+        word: 0,
+    })
 }
 
 // The numbers from left to right, then the matrix.
@@ -141,14 +150,14 @@ fn in_order(
     m: NumberAnswer,
     g: NumberAnswer,
 ) -> CueAnswer
-    ensures { λ r. ⌜ cueAnswered r ≡ inOrder mics lsps (numberAnswered n) (numberAnswered m) (numberAnswered g) ⌝ }
+    ensures { λ r. ⌜ (cueAnswered r, wordOf r) ≡ wordless (inOrder mics lsps (numberAnswered n) (numberAnswered m) (numberAnswered g)) ⌝ }
 {
     match n {
-        NumberAnswer::Refused(k) => CueAnswer::Refused(k),
+        NumberAnswer::Refused(k) => CueAnswer::Refused(CueFault { number: k, word: 0 }),
         NumberAnswer::Given(x) => match m {
-            NumberAnswer::Refused(k) => CueAnswer::Refused(k),
+            NumberAnswer::Refused(k) => CueAnswer::Refused(CueFault { number: k, word: 0 }),
             NumberAnswer::Given(y) => match g {
-                NumberAnswer::Refused(k) => CueAnswer::Refused(k),
+                NumberAnswer::Refused(k) => CueAnswer::Refused(CueFault { number: k, word: 0 }),
                 NumberAnswer::Given(z) => in_matrix(mics, lsps, x, y, z),
             },
         },
@@ -157,18 +166,22 @@ fn in_order(
 
 // Reads a cue line, which is its own store, for a matrix of `mics` by `lsps`.
 pub fn read_cue(line: &[u8], mics: usize, lsps: usize) -> CueAnswer
-    ensures { λ r. ⌜ cueAnswered r ≡ cueRule (now (line .entry)) mics lsps ⌝ }
+    ensures { λ r. ⌜ (cueAnswered r, wordOf r) ≡ cueWordRule (now (line .entry)) mics lsps ⌝ }
 {
     let found = line_refusal(line, mics, lsps);
     if found != 0 {
-        return CueAnswer::Refused(found);
+        return CueAnswer::Refused(CueFault {
+            number: found,
+            word: 0,
+        });
     }
     let list = first_words(line);
-    if has_form(line, list) {
-        let n = number::read(line, list[1], BASE);
-        let m = number::read(line, list[4], BASE);
-        let g = number::read(line, list[6], BASE);
-        return in_order(mics, lsps, n, m, g);
+    let word = wrong_word(line, list);
+    if word != 0 {
+        return CueAnswer::Refused(CueFault { number: 11, word });
     }
-    CueAnswer::Refused(11)
+    let n = number::read(line, list[1], BASE);
+    let m = number::read(line, list[4], BASE);
+    let g = number::read(line, list[6], BASE);
+    in_order(mics, lsps, n, m, g)
 }

@@ -4,6 +4,7 @@ mod label;
 
 pub use cue::Cue;
 pub use cue::CueAnswer;
+pub use cue::CueFault;
 pub use cue::read_cue;
 pub use label::LabelAdded;
 pub use label::LabelCount;

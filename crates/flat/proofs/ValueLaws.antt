@@ -1,6 +1,6 @@
 -- Laws of the flat values, case by case of the answer. Assumes nothing.
 use Prim.Native.Nat.{ℕ}
-use mathlib.Core.Path.{_≡_}
+use mathlib.Core.Path.{_≡_, refl}
 use mathlib.Core.Bool.{false}
 use lib.IntN.{ℤ, pos}
 use borrow.Author.Needs.{needs}
@@ -17,10 +17,13 @@ use Rattle.charset.specs.declared.SetAnswer.the-variants.{Done as Set, Refused 
 use Rattle.translator.specs.Translate.{translateAnswered}
 use Rattle.translator.specs.declared.TranslateAnswer.{TranslateAnswer}
 use Rattle.translator.specs.declared.TranslateAnswer.the-variants.{Done as Translated, Refused as Untranslated}
-use Rattle.desk.specs.Cue.{cueAnswered}
+use Rattle.records.specs.Told.{refusedAt, tells}
+use Rattle.records.specs.declared.Fault.{Fault}
+use Rattle.desk.specs.Cue.{cueAnswered, wordOf}
 use Rattle.desk.specs.Label.{labelCounted, labelAdded}
 use Rattle.desk.specs.declared.cue.Cue.{Cue}
 use Rattle.desk.specs.declared.cue.CueAnswer.{CueAnswer}
+use Rattle.desk.specs.declared.cue.CueFault.{CueFault}
 use Rattle.desk.specs.declared.cue.CueAnswer.the-variants.{Cue as Read, Refused as Unread}
 use Rattle.desk.specs.declared.label.read.LabelCount.{LabelCount}
 use Rattle.desk.specs.declared.label.read.LabelCount.the-variants.{Records, Refused as Uncounted}
@@ -51,31 +54,35 @@ module _ (a : NumberAnswer) where
   number-refused n z e h = rw (e, h)
 
 module _ (a : CueAnswer) where
-  pub cue-given : (c : Cue) (g : ℤ) → a ≡ Read c → g ≡ c .gain → _≡_ {A = FlatCue} (record { refusal = 0; microphone = c .microphone; loudspeaker = c .loudspeaker; gain = g }) (flatCue (cueAnswered a))
+  pub cue-given : (c : Cue) (g : ℤ) → a ≡ Read c → g ≡ c .gain → _≡_ {A = FlatCue} (record { refusal = 0; word = 0; microphone = c .microphone; loudspeaker = c .loudspeaker; gain = g }) (flatCue (cueAnswered a, wordOf a))
   unfolding flatCue
   cue-given c g e h = rw (e, h)
 
-  pub cue-refused : (n : ℕ) (g : ℤ) → a ≡ Unread n → g ≡ pos 0 → _≡_ {A = FlatCue} (record { refusal = n; microphone = 0; loudspeaker = 0; gain = g }) (flatCue (cueAnswered a))
+  pub cue-refused : (f : CueFault) (g : ℤ) → a ≡ Unread f → g ≡ pos 0 → _≡_ {A = FlatCue} (record { refusal = f .number; word = f .word; microphone = 0; loudspeaker = 0; gain = g }) (flatCue (cueAnswered a, wordOf a))
   unfolding flatCue
-  cue-refused n g e h = rw (e, h)
+  cue-refused f g e h = rw (e, h)
 
-module _ (a : LabelCount) where
-  pub records-given : (m : ℕ) → a ≡ Records m → _≡_ {A = FlatSize} (record { refusal = 0; value = m }) (flatSize (labelCounted a))
-  unfolding flatSize
-  records-given m e = rw e
+pub size-given : (m : ℕ) → _≡_ {A = FlatSize} (record { refusal = 0; offset = 0; value = m }) (flatSize (tells m))
+unfolding flatSize
+size-given m = refl
 
-  pub records-refused : (n : ℕ) → a ≡ Uncounted n → _≡_ {A = FlatSize} (record { refusal = n; value = 0 }) (flatSize (labelCounted a))
-  unfolding flatSize
-  records-refused n e = rw e
+pub size-refused : (f : Fault) → _≡_ {A = FlatSize} (record { refusal = f .number; offset = f .offset; value = 0 }) (flatSize (refusedAt (f .number) (f .offset)))
+unfolding flatSize
+size-refused f = refl
 
-module _ (a : LabelAdded) where
-  pub added-given : (m : ℕ) → a ≡ Added m → _≡_ {A = FlatSize} (record { refusal = 0; value = m }) (flatSize (labelAdded a))
-  unfolding flatSize
-  added-given m e = rw e
+module _ (a : LabelCount) (r : FlatSize) where
+  pub records-given : (m : ℕ) → a ≡ Records m → r ≡ flatSize (tells m) → r ≡ flatSize (labelCounted a)
+  records-given m e h = rw e h
 
-  pub added-refused : (n : ℕ) → a ≡ Unadded n → _≡_ {A = FlatSize} (record { refusal = n; value = 0 }) (flatSize (labelAdded a))
-  unfolding flatSize
-  added-refused n e = rw e
+  pub records-refused : (f : Fault) → a ≡ Uncounted f → r ≡ flatSize (refusedAt (f .number) (f .offset)) → r ≡ flatSize (labelCounted a)
+  records-refused f e h = rw e h
+
+module _ (a : LabelAdded) (r : FlatSize) where
+  pub added-given : (m : ℕ) → a ≡ Added m → r ≡ flatSize (tells m) → r ≡ flatSize (labelAdded a)
+  added-given m e h = rw e h
+
+  pub added-refused : (f : Fault) → a ≡ Unadded f → r ≡ flatSize (refusedAt (f .number) (f .offset)) → r ≡ flatSize (labelAdded a)
+  added-refused f e h = rw e h
 
 module _ (a : SetAnswer) where
   pub set-done : a ≡ Set → 0 ≡ flatDone (setAnswered a)
@@ -103,6 +110,8 @@ pub ruleset value-laws = (
   number-refused,
   cue-given,
   cue-refused,
+  size-given,
+  size-refused,
   records-given,
   records-refused,
   added-given,

@@ -5,11 +5,13 @@ use desk::CueAnswer;
 use desk::LabelAdded;
 use desk::LabelCount;
 use number::NumberAnswer;
+use records::Fault;
 use translator::TranslateAnswer;
 ghost use mathlib.Core.Path.{_≡_};
 ghost use Rattle.compare.specs.Compare.{comparedOf};
 ghost use Rattle.number.specs.Number.{numberAnswered};
-ghost use Rattle.desk.specs.Cue.{cueAnswered};
+ghost use Rattle.records.specs.Told.{refusedAt, tells};
+ghost use Rattle.desk.specs.Cue.{cueAnswered, wordOf};
 ghost use Rattle.desk.specs.Label.{labelCounted, labelAdded};
 ghost use Rattle.charset.specs.Rule.{setAnswered};
 ghost use Rattle.translator.specs.Translate.{translateAnswered};
@@ -32,6 +34,7 @@ pub struct FlatNumber {
 #[repr(C)]
 pub struct FlatCue {
     pub refusal: u8,
+    pub word: u8,
     pub microphone: usize,
     pub loudspeaker: usize,
     pub gain: i64,
@@ -40,6 +43,7 @@ pub struct FlatCue {
 #[repr(C)]
 pub struct FlatSize {
     pub refusal: u8,
+    pub offset: usize,
     pub value: usize,
 }
 
@@ -72,17 +76,19 @@ pub fn number(a: NumberAnswer) -> FlatNumber
 }
 
 pub fn cue(a: CueAnswer) -> FlatCue
-    ensures { λ r. ⌜ r ≡ flatCue (cueAnswered a) ⌝ }
+    ensures { λ r. ⌜ r ≡ flatCue (cueAnswered a, wordOf a) ⌝ }
 {
     match a {
         CueAnswer::Cue(c) => FlatCue {
             refusal: 0,
+            word: 0,
             microphone: c.microphone,
             loudspeaker: c.loudspeaker,
             gain: c.gain,
         },
-        CueAnswer::Refused(refusal) => FlatCue {
-            refusal,
+        CueAnswer::Refused(f) => FlatCue {
+            refusal: f.number,
+            word: f.word,
             microphone: 0,
             loudspeaker: 0,
             gain: 0,
@@ -90,12 +96,32 @@ pub fn cue(a: CueAnswer) -> FlatCue
     }
 }
 
+fn size(value: usize) -> FlatSize
+    ensures { λ r. ⌜ r ≡ flatSize (tells value) ⌝ }
+{
+    FlatSize {
+        refusal: 0,
+        offset: 0,
+        value,
+    }
+}
+
+fn no_size(f: Fault) -> FlatSize
+    ensures { λ r. ⌜ r ≡ flatSize (refusedAt (f .number) (f .offset)) ⌝ }
+{
+    FlatSize {
+        refusal: f.number,
+        offset: f.offset,
+        value: 0,
+    }
+}
+
 pub fn records(a: LabelCount) -> FlatSize
     ensures { λ r. ⌜ r ≡ flatSize (labelCounted a) ⌝ }
 {
     match a {
-        LabelCount::Records(value) => FlatSize { refusal: 0, value },
-        LabelCount::Refused(refusal) => FlatSize { refusal, value: 0 },
+        LabelCount::Records(value) => size(value),
+        LabelCount::Refused(f) => no_size(f),
     }
 }
 
@@ -103,8 +129,8 @@ pub fn added(a: LabelAdded) -> FlatSize
     ensures { λ r. ⌜ r ≡ flatSize (labelAdded a) ⌝ }
 {
     match a {
-        LabelAdded::Added(value) => FlatSize { refusal: 0, value },
-        LabelAdded::Refused(refusal) => FlatSize { refusal, value: 0 },
+        LabelAdded::Added(value) => size(value),
+        LabelAdded::Refused(f) => no_size(f),
     }
 }
 

@@ -20,6 +20,7 @@ use Rattle.charset.specs.Rule.{charAnswered}
 use Rattle.charset.specs.declared.CharAt.{CharAt}
 use Rattle.charset.specs.declared.CharAnswer.{CharAnswer}
 use Rattle.charset.specs.declared.CharAnswer.the-variants.{Found as CharFound, Nothing as NoChar, Refused as CharRefused}
+use Rattle.records.specs.declared.Fault.{Fault}
 use Rattle.desk.specs.Label.{labelPlaced, namePart}
 use Rattle.desk.specs.declared.label.find.LabelPlace.{LabelPlace}
 use Rattle.desk.specs.declared.label.find.LabelPlace.the-variants.{Found as Named, Missing, Refused as Unnamed}
@@ -95,18 +96,18 @@ module _ (a : CharAnswer) where
     character-refused n e h = rw e h
 
 module _ (a : LabelPlace) where
-  pub name-found : (place n : ℕ) → a ≡ Named place n → _≡_ {A = FlatName} (record { refusal = 0; found = true; place = place; length = n }) (flatName (labelPlaced a))
+  pub name-found : (place n : ℕ) → a ≡ Named place n → _≡_ {A = FlatName} (record { refusal = 0; found = true; offset = 0; place = place; length = n }) (flatName (labelPlaced a))
   unfolding flatName
   name-found place n e = rw e
 
   module _ (r : FlatName) where
-    pub name-nothing : a ≡ Missing → r ≡ noName 0 → r ≡ flatName (labelPlaced a)
+    pub name-nothing : a ≡ Missing → r ≡ noName 0 0 → r ≡ flatName (labelPlaced a)
     unfolding flatName
     name-nothing e h = rw e h
 
-    pub name-refused : (n : ℕ) → a ≡ Unnamed n → r ≡ noName n → r ≡ flatName (labelPlaced a)
+    pub name-refused : (f : Fault) → a ≡ Unnamed f → r ≡ noName (f .number) (f .offset) → r ≡ flatName (labelPlaced a)
     unfolding flatName
-    name-refused n e h = rw e h
+    name-refused f e h = rw e h
 
 -- the name as a part
 module _ (a : LabelPlace) (r : FlatPart) (p : StrPtr) (h : r ≡ flatPart p) where
@@ -118,9 +119,9 @@ module _ (a : LabelPlace) (r : FlatPart) (p : StrPtr) (h : r ≡ flatPart p) whe
   unfolding namePart
   part-missing e q = rw (e, ← q) h
 
-  pub part-refused : (n : ℕ) → a ≡ Unnamed n → p ≡ noString → r ≡ flatPart (namePart (labelPlaced a))
+  pub part-refused : (f : Fault) → a ≡ Unnamed f → p ≡ noString → r ≡ flatPart (namePart (labelPlaced a))
   unfolding namePart
-  part-refused n e q = rw (e, ← q) h
+  part-refused f e q = rw (e, ← q) h
 
 pub ruleset find-laws = (
   needs,

@@ -1,5 +1,5 @@
 -- The flat answers of a search: nothing found is no refusal, and its fields are 0 all the same, but for the number that
--- a table's run read. Assumes nothing.
+-- a table's run read; a label list's refusal has its offset beside the number. Assumes nothing.
 use Prim.Native.Nat.{ℕ}
 use mathlib.Core.Bool.{true, false}
 use Rattle.strlib.specs.Refusal.{Outcome, refused, gives, Sought, nowhere, at}
@@ -7,6 +7,7 @@ use Rattle.search.specs.Search.{Result, nothing, found}
 use Rattle.search.specs.declared.Match.{Match}
 use Rattle.search.specs.declared.Split.{Split}
 use Rattle.charset.specs.declared.CharAt.{CharAt}
+use Rattle.records.specs.Told.{Told, refusedAt, tells}
 use Rattle.flat.specs.Strings.{noString}
 use Rattle.flat_finds.specs.declared.finds.FlatMatch.{FlatMatch}
 use Rattle.flat_finds.specs.declared.finds.FlatSplit.{FlatSplit}
@@ -49,10 +50,11 @@ flatCharacter (refused n) = noCharacter n
 flatCharacter (gives nowhere) = noCharacter 0
 flatCharacter (gives (at c)) = record { refusal = 0; found = true; code = c .code; position = c .position }
 
-abbrev pub noName : ℕ → FlatName
-noName n = record { refusal = n; found = false; place = 0; length = 0 }
+-- without a name, by the refusal's number and offset
+abbrev pub noName : ℕ → ℕ → FlatName
+noName n offset = record { refusal = n; found = false; offset = offset; place = 0; length = 0 }
 
-unfoldable pub flatName : Outcome (Sought (ℕ × ℕ)) → FlatName
-flatName (refused n) = noName n
-flatName (gives nowhere) = noName 0
-flatName (gives (at (place, n))) = record { refusal = 0; found = true; place = place; length = n }
+unfoldable pub flatName : Told (Sought (ℕ × ℕ)) → FlatName
+flatName (refusedAt n offset) = noName n offset
+flatName (tells nowhere) = noName 0 0
+flatName (tells (at (place, n))) = record { refusal = 0; found = true; offset = 0; place = place; length = n }

@@ -55,6 +55,7 @@ pub struct FlatCharacter {
 pub struct FlatName {
     pub refusal: u8,
     pub found: bool,
+    pub offset: usize,
     pub place: usize,
     pub length: usize,
 }
@@ -184,12 +185,13 @@ pub fn character(a: CharAnswer) -> FlatCharacter
     }
 }
 
-fn no_name(refusal: u8) -> FlatName
-    ensures { λ r. ⌜ r ≡ noName refusal ⌝ }
+fn no_name(refusal: u8, offset: usize) -> FlatName
+    ensures { λ r. ⌜ r ≡ noName refusal offset ⌝ }
 {
     FlatName {
         refusal,
         found: false,
+        offset,
         place: 0,
         length: 0,
     }
@@ -202,11 +204,12 @@ pub fn name(a: LabelPlace) -> FlatName
         LabelPlace::Found { place, length: n } => FlatName {
             refusal: 0,
             found: true,
+            offset: 0,
             place,
             length: n,
         },
-        LabelPlace::Missing => no_name(0),
-        LabelPlace::Refused(refusal) => no_name(refusal),
+        LabelPlace::Missing => no_name(0, 0),
+        LabelPlace::Refused(f) => no_name(f.number, f.offset),
     }
 }
 

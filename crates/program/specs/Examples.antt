@@ -12,7 +12,7 @@ use Rattle.strlib.specs.Refusal.{Outcome, refused, gives, outcome}
 use Rattle.words.specs.Ends.{upTo}
 use Rattle.words.specs.Lines.{linesIn, lines}
 use Rattle.words.specs.Words.{wordsIn, same}
-use Rattle.desk.specs.Cue.{formed, isSize, isIndex, isGain, cueRefusal, cueOf, cueRule}
+use Rattle.desk.specs.Cue.{wrongWord, formed, isSize, isIndex, isGain, cueRefusal, cueOf, cueRule}
 use Rattle.desk.specs.declared.cue.Cue.{Cue}
 use Rattle.answers.specs.Text.{end, heading, okText, cueText, answerText, totalText}
 use Rattle.answers.specs.Pieces.{counted, goodOf, answersText, goods, totals, ended}
@@ -44,24 +44,24 @@ pub record Examples : Type 0 where
 
 cue-one : cueRule line1 64 128 ≡ cue1
 unfolding
-    storeFits all characters outcome upTo wordsIn same inRange unblanked minus unsigned isDigit areDigits isNumber value signed numberOf formed isSize isIndex
+    storeFits all characters outcome upTo wordsIn same inRange unblanked minus unsigned isDigit areDigits isNumber value signed numberOf wrongWord formed isSize isIndex
     isGain cueRefusal cueOf cueRule
 cue-one = refl
 
 cue-two : cueRule line2 64 128 ≡ refused 12
 unfolding
-    storeFits all characters outcome upTo wordsIn same inRange unblanked minus unsigned isDigit areDigits isNumber value signed numberOf formed isSize isIndex
+    storeFits all characters outcome upTo wordsIn same inRange unblanked minus unsigned isDigit areDigits isNumber value signed numberOf wrongWord formed isSize isIndex
     isGain cueRefusal cueOf cueRule
 cue-two = refl
 
 cue-three : cueRule line3 64 128 ≡ refused 11
 unfolding
-    storeFits all characters outcome upTo wordsIn same inRange unblanked minus unsigned isDigit areDigits isNumber value signed numberOf formed isSize isIndex
+    storeFits all characters outcome upTo wordsIn same inRange unblanked minus unsigned isDigit areDigits isNumber value signed numberOf wrongWord formed isSize isIndex
     isGain cueRefusal cueOf cueRule
 cue-three = refl
 
 cue-empty : cueRule [] 64 128 ≡ refused 11
-unfolding storeFits all characters outcome wordsIn same formed isSize cueRefusal cueRule
+unfolding storeFits all characters outcome wordsIn same wrongWord formed isSize cueRefusal cueRule
 cue-empty = refl
 
 lines-ended : lines (line1 ++ end ++ line2 ++ end ++ line3 ++ end) ≡ line1 ∷ line2 ∷ line3 ∷ []

@@ -22,11 +22,11 @@ fewer (suc n) (suc m) = let z : suc m - suc n ≡ m - n = omega arith in rw z (f
 
 module _ (kind number : ℕ) (name : List ℕ) where
   abbrev headed : List ℕ
-  headed = set (set (set (replicate 19 32) 0 kind) 1 (number / 256 % 256)) 2 (number % 256)
+  headed = set (set (set (replicate 19 32) 0 (kind % 256)) 1 (number / 256 % 256)) 2 (number % 256)
 
-  module _ (w : ℕ) (p : StrPtr) (x y : List ℕ) (ew : w ≡ widthOf kind) (ep : p ≡ pointer 0 w w) (ex : x ≡ textOf name p) (ey : y ≡ pasted headed headSize x) where
-    fitting : x ≡ take (widthOf kind) name
-    fitting = ex ∙ rw (ep, ew) (text-front name (widthOf kind) (widthOf kind))
+  module _ (w : ℕ) (p : StrPtr) (x y : List ℕ) (ew : w ≡ widthOf (kind % 256)) (ep : p ≡ pointer 0 w w) (ex : x ≡ textOf name p) (ey : y ≡ pasted headed headSize x) where
+    fitting : x ≡ take (widthOf (kind % 256)) name
+    fitting = ex ∙ rw (ep, ew) (text-front name (widthOf (kind % 256)) (widthOf (kind % 256)))
 
     short : length x ≤ 16
     unfolding widthOf

@@ -28,6 +28,9 @@ module _ (kind number : ℕ) (name : List ℕ) where
     label-name = take-all (widthOf kind) (padded (widthOf kind) name) (omega (arith, padded-length (widthOf kind) name short))
 
     -- what fits is written as it is
-    pub fitted-is : number < 65536 → fittedBytes kind number name ≡ labelBytes kind number name
+    pub fitted-is : kind < 256 → number < 65536 → fittedBytes kind number name ≡ labelBytes kind number name
     unfolding fittedBytes
-    fitted-is small = let n : number % 65536 ≡ number = omega arith in rw (n, take-all (widthOf kind) name short)
+    fitted-is one two =
+        let k : kind % 256 ≡ kind = omega arith in
+        let n : number % 65536 ≡ number = omega arith in
+        rw (k, n, take-all (widthOf kind) name short)

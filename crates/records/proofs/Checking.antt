@@ -47,7 +47,7 @@ module _ (kind limit found₁ : ℕ) (d : limit ≡ limitOf kind) (e₁ : found�
     unfolding keyRefusal isKind
     key-checked found₂ e₂ = first-is (keyChecks kind number) refl found₂ (rw (e₂, e₁, d, f))
 
-  module _ (x : List ℕ) (k : kind ≡ kindOf x) (size found₂ : ℕ) (s : size ≡ recordSize kind) (e₂ : found₂ ≡ also found₁ 11 (leb size (length x))) where
+  module _ (x : List ℕ) (k : kind ≡ kindOf x) (size found₂ : ℕ) (s : size ≡ recordSize kind) (e₂ : found₂ ≡ also found₁ 13 (leb size (length x))) where
     pub body-checked : (number : ℕ) (t : Bool) (found₃ : ℕ) → number ≡ numberIn x → t ≡ isNumberOf kind number → found₃ ≡ also found₂ 12 t
         → (name : List ℕ) (u : Bool) (found₄ : ℕ) → name ≡ nameIn x → u ≡ isName name → found₄ ≡ also found₃ 2 u → found₄ ≡ bodyRefusal x
     unfolding bodyRefusal isKind
@@ -59,7 +59,7 @@ pub ruleset checked-laws = (needs, key-checked, body-checked)
 module _ (l : List ℕ) (room kind number : ℕ) (name : List ℕ) (found₁ w found₂ : ℕ) (e₁ : found₁ ≡ keyRefusal kind number) (ew : w ≡ widthOf kind)
     (e₂ : found₂ ≡ also found₁ 4 (leb (length name) w)) where
   abbrev behind : List (ℕ × Bool)
-  behind = (2, isName name) ∷ (11, isFresh l kind number) ∷ (6, leb (recordSize kind) room) ∷ []
+  behind = (2, isName name) ∷ (14, isFresh l kind number) ∷ (6, leb (recordSize kind) room) ∷ []
 
   form : found₂ ≡ first (formChecks kind number name)
   unfolding keyRefusal
@@ -72,7 +72,7 @@ module _ (l : List ℕ) (room kind number : ℕ) (name : List ℕ) (found₁ w f
   new-form h = first-before (formChecks kind number name) behind found₂ form h
 
   pub new-behind : found₂ ≡ 0 → (t : Bool) (found₃ : ℕ) → t ≡ isName name → found₃ ≡ also 0 2 t
-      → (k found₄ : ℕ) → k ≡ recordOf l kind number (records l) → found₄ ≡ also found₃ 11 (eqb k 0)
+      → (k found₄ : ℕ) → k ≡ recordOf l kind number (records l) → found₄ ≡ also found₃ 14 (eqb k 0)
       → (size found₅ : ℕ) → size ≡ recordSize kind → found₅ ≡ also found₄ 6 (leb size room) → found₅ ≡ newRefusal l room kind number name
   unfolding newRefusal isFresh
   new-behind z t found₃ f e₃ k found₄ g e₄ size found₅ s e₅ =

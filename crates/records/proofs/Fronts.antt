@@ -38,11 +38,11 @@ module _ (met rest : List ℕ) where
   -- what it is refused with by itself stands before all else
   pub behind-body : (k : ℕ) → k ≡ bodyRefusal rest → (k ≡ 0 → ⊥) → k ≡ behindRefusal met rest
   unfolding bodyRefusal behindRefusal
-  behind-body k e h = first-before (bodyChecks rest) ((11, isFresh met (kindOf rest) (numberIn rest)) ∷ []) k e h
+  behind-body k e h = first-before (bodyChecks rest) ((14, isFresh met (kindOf rest) (numberIn rest)) ∷ []) k e h
 
-  pub behind-fresh : bodyRefusal rest ≡ 0 → behindRefusal met rest ≡ cond (isFresh met (kindOf rest) (numberIn rest)) 0 11
+  pub behind-fresh : bodyRefusal rest ≡ 0 → behindRefusal met rest ≡ cond (isFresh met (kindOf rest) (numberIn rest)) 0 14
   unfolding bodyRefusal behindRefusal
-  behind-fresh e = first-behind (bodyChecks rest) ((11, isFresh met (kindOf rest) (numberIn rest)) ∷ []) refl e
+  behind-fresh e = first-behind (bodyChecks rest) ((14, isFresh met (kindOf rest) (numberIn rest)) ∷ []) refl e
 
   pub passes : behindRefusal met rest ≡ 0 → Passes met rest
   passes e =
@@ -53,7 +53,7 @@ module _ (met rest : List ℕ) where
       none zero q = refl
       none (suc k) q = behind-body (suc k) (sym q) (λ (z : suc k ≡ 0). omega arith) ∙ e
 
-      go : (b : Bool) → _≡_ {A = ℕ} (cond b 0 11) 0 → b ≡ true
+      go : (b : Bool) → _≡_ {A = ℕ} (cond b 0 14) 0 → b ≡ true
       go true f = refl
       go false f = absurd (omega arith)
 

@@ -1,9 +1,11 @@
 pub mod Walking
 pub mod Limits
+pub mod Telling
 pub mod Sizes
 pub mod Fronts
 pub mod Goodness
 pub mod Likeness
+pub mod Placing
 pub mod Bytes
 pub mod Reading
 pub mod Checking

@@ -1,2 +1,4 @@
 pub mod Walk
+pub mod Told
 pub mod Record
+pub mod Placed

@@ -1,4 +1,5 @@
--- The records of a label list: 01, "Cue lines and labels", second paragraph. Assumes nothing.
+-- The records of a label list: 01, "Cue lines and labels", second paragraph; the numbers 13 and 14 and the place of a
+-- faulty record: 02, W2. Assumes nothing.
 use Prim.Native.Nat.{ℕ, zero, suc, _+_, _-_, _*_, _/_, _%_}
 use mathlib.Core.Bool.{Bool, cond, _&&_}
 use mathlib.Core.List.{List, [], _∷_, _++_}
@@ -6,7 +7,7 @@ use lib.Dec.{leb, eqb}
 use lib.ListN.{length, getD, take, drop, replicate}
 use Rattle.strlib.specs.Pointer.{all}
 use Rattle.strlib.specs.Refusal.{first}
-use Rattle.records.specs.Walk.{lastOf}
+use Rattle.records.specs.Walk.{lastOf, leadOf}
 
 -- ---- a record: the kind, two bytes of number, and the name
 
@@ -75,14 +76,14 @@ isFresh l kind number = eqb (recordOf l kind number (records l)) 0
 -- the record at the front of `rest` by itself, in this order: kind, short body, number, name
 abbrev pub bodyChecks : List ℕ → List (ℕ × Bool)
 bodyChecks rest =
-    (11, isKind (kindOf rest)) ∷ (11, leb (recordSize (kindOf rest)) (length rest)) ∷ (12, isNumberOf (kindOf rest) (numberIn rest)) ∷ (2, isName (nameIn rest)) ∷ []
+    (11, isKind (kindOf rest)) ∷ (13, leb (recordSize (kindOf rest)) (length rest)) ∷ (12, isNumberOf (kindOf rest) (numberIn rest)) ∷ (2, isName (nameIn rest)) ∷ []
 
 unfoldable pub bodyRefusal : List ℕ → ℕ
 bodyRefusal rest = first (bodyChecks rest)
 
 -- and behind the list `met`, which has none of its kind and number
 abbrev pub behindChecks : List ℕ → List ℕ → List (ℕ × Bool)
-behindChecks met rest = bodyChecks rest ++ ((11, isFresh met (kindOf rest) (numberIn rest)) ∷ [])
+behindChecks met rest = bodyChecks rest ++ ((14, isFresh met (kindOf rest) (numberIn rest)) ∷ [])
 
 unfoldable pub behindRefusal : List ℕ → List ℕ → ℕ
 behindRefusal met rest = first (behindChecks met rest)
@@ -105,6 +106,15 @@ faultIn l (suc n) = earlier (faultIn l n) (recordRefusal l n)
 unfoldable pub listRefusal : List ℕ → ℕ
 listRefusal l = faultIn l (records l)
 
+-- how many of the first n records stand before the first faulty one
+unfoldable pub soundIn : List ℕ → ℕ → ℕ
+soundIn l n = leadOf (λ k. eqb (recordRefusal l k) 0) n
+
+-- the offset that comes with a refusal, from 0: that of the first faulty record's kind byte, which in a good list is the
+-- list's length
+unfoldable pub faultPlace : List ℕ → ℕ
+faultPlace l = placeOf l (soundIn l (records l))
+
 -- what a kind and a number that are asked for or added are refused with
 abbrev pub keyChecks : ℕ → ℕ → List (ℕ × Bool)
 keyChecks kind number = (11, isKind kind) ∷ (12, isNumberOf kind number) ∷ []
@@ -119,7 +129,7 @@ formChecks kind number name = keyChecks kind number ++ ((4, leb (length name) (w
 
 abbrev pub newChecks : List ℕ → ℕ → ℕ → ℕ → List ℕ → List (ℕ × Bool)
 newChecks l room kind number name =
-    formChecks kind number name ++ ((2, isName name) ∷ (11, isFresh l kind number) ∷ (6, leb (recordSize kind) room) ∷ [])
+    formChecks kind number name ++ ((2, isName name) ∷ (14, isFresh l kind number) ∷ (6, leb (recordSize kind) room) ∷ [])
 
 unfoldable pub newRefusal : List ℕ → ℕ → ℕ → ℕ → List ℕ → ℕ
 newRefusal l room kind number name = first (newChecks l room kind number name)
@@ -134,6 +144,7 @@ padded width name = name ++ replicate (width - length name) 32
 unfoldable pub labelBytes : ℕ → ℕ → List ℕ → List ℕ
 labelBytes kind number name = (kind ∷ number / 256 ∷ number % 256 ∷ []) ++ padded (widthOf kind) name
 
--- what is written whatever is given: two bytes of the number, and so much of the name as a record has room for
+-- what is written whatever is given: a byte of the kind, two of the number, and so much of the name as a record has
+-- room for
 unfoldable pub fittedBytes : ℕ → ℕ → List ℕ → List ℕ
-fittedBytes kind number name = labelBytes kind (number % 65536) (take (widthOf kind) name)
+fittedBytes kind number name = labelBytes (kind % 256) (number % 65536) (take (widthOf (kind % 256)) name)

@@ -12,10 +12,10 @@ fn byte_at(bytes: &[u8], i: usize) -> u8
     if i < bytes.len() { bytes[i] } else { 0 }
 }
 
-pub fn kind_of(rest: &[u8]) -> u8
+pub fn kind_of(rest: &[u8]) -> usize
     ensures { λ r. ⌜ r ≡ kindOf (now (rest .entry)) ⌝ }
 {
-    byte_at(rest, 0)
+    byte_at(rest, 0) as usize
 }
 
 // The number of two bytes, the high byte first.
@@ -38,7 +38,7 @@ pub fn name_in(rest: &[u8]) -> &[u8]
     strlib::text(rest, StrPtr::full(kinds::HEAD, width))
 }
 
-pub fn is_record(rest: &[u8], kind: u8, number: usize) -> bool
+pub fn is_record(rest: &[u8], kind: usize, number: usize) -> bool
     ensures { λ r. ⌜ r ≡ isRecord (now (rest .entry)) kind number ⌝ }
 {
     strlib::both(kind_of(rest) == kind, number_of(rest) == number)
@@ -50,7 +50,7 @@ pub fn body_refusal(rest: &[u8]) -> u8
 {
     let kind = kind_of(rest);
     let found = strlib::check(0, 11, 1 <= kinds::limit_of(kind));
-    let found = strlib::check(found, 11, kinds::size_of(kind) <= rest.len());
+    let found = strlib::check(found, 13, kinds::size_of(kind) <= rest.len());
     let found = strlib::check(found, 12, kinds::is_number_of(kind, number_of(rest)));
     strlib::check(found, 2, kinds::is_name(name_in(rest)))
 }

@@ -14,7 +14,7 @@ pub const HEAD: usize = 3;
 pub const NAME: usize = 16;
 
 // The greatest number of a kind: 1, microphones, or 2, loudspeakers; 0 for what is no kind.
-pub fn limit_of(kind: u8) -> usize
+pub fn limit_of(kind: usize) -> usize
     ensures { λ r. ⌜ r ≡ limitOf kind ⌝ }
 {
     if kind == 1 {
@@ -27,19 +27,19 @@ pub fn limit_of(kind: u8) -> usize
 }
 
 // Characters of a name, and bytes of a record.
-pub fn width_of(kind: u8) -> usize
+pub fn width_of(kind: usize) -> usize
     ensures { λ r. ⌜ r ≡ widthOf kind ⌝ }
 {
     NAME
 }
 
-pub fn size_of(kind: u8) -> usize
+pub fn size_of(kind: usize) -> usize
     ensures { λ r. ⌜ r ≡ recordSize kind ⌝ }
 {
     HEAD + width_of(kind)
 }
 
-pub fn is_number_of(kind: u8, number: usize) -> bool
+pub fn is_number_of(kind: usize, number: usize) -> bool
     ensures { λ r. ⌜ r ≡ isNumberOf kind number ⌝ }
 {
     strlib::both(1 <= number, number <= limit_of(kind))
@@ -63,7 +63,7 @@ pub fn is_name(bytes: &[u8]) -> bool
 }
 
 // What a kind and a number are refused with, 0 for nothing.
-pub fn key_refusal(kind: u8, number: usize) -> u8
+pub fn key_refusal(kind: usize, number: usize) -> u8
     ensures { λ r. ⌜ r ≡ keyRefusal kind number ⌝ }
 {
     let found = strlib::check(0, 11, 1 <= limit_of(kind));

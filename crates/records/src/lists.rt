@@ -35,7 +35,7 @@ pub fn record_at(list: &[u8], k: usize) -> &[u8]
 }
 
 // The record of this kind and number, counted from 1; 0 for none.
-pub fn find_record(list: &[u8], kind: u8, number: usize) -> usize
+pub fn find_record(list: &[u8], kind: usize, number: usize) -> usize
     ensures { λ r. ⌜ r ≡ recordOf (now (list .entry)) kind number (records (now (list .entry))) ⌝ }
 {
     let mut k = count(list);

@@ -1,13 +1,13 @@
 -- Laws of refusals: the checks made one behind the other find the first that fails, and an answer follows from the
 -- number found. Assumes nothing.
-use mathlib.Core.Path.{_≡_, refl, ap, _∙_}
-use mathlib.Core.Bool.{Bool, true, false, cond, _&&_, false≢true}
+use mathlib.Core.Path.{_≡_, refl, sym, ap, _∙_}
+use mathlib.Core.Bool.{Bool, true, false, cond, not, _&&_, false≢true}
 use mathlib.Core.List.{List, [], _∷_, _++_}
 use Prim.Native.Nat.{ℕ, zero, suc, _≤_, _<_, zero-le}
 use native.Mathlib.Omega.{arith}
-use lib.Dec.{leb, ltb}
+use lib.Dec.{leb, ltb, eqb}
 use borrow.Author.Needs.{needs}
-use borrow.Author.Tests.{leb-true, ltb-true}
+use borrow.Author.Tests.{leb-true, ltb-true, eqb-false, not-true}
 use Rattle.strlib.specs.Refusal.{refused, gives, first, also, outcome, after, ruled}
 
 -- a case split that keeps the equation, usable inside a clause, so that its branches may make recursive calls
@@ -107,6 +107,20 @@ first-under m (c ∷ cs) h =
     go : (ok : Bool) → c .0 ≤ m → first cs ≤ m → cond ok (first cs) (c .0) ≤ m
     go true x y = y
     go false x y = x
+
+abbrev pub numberedBut : ℕ → List (ℕ × Bool) → Bool
+numberedBut m [] = true
+numberedBut m (c ∷ cs) = not (eqb (c .0) m) && numberedBut m cs
+
+pub first-other : (m : ℕ) (cs : List (ℕ × Bool)) → numberedBut m cs ≡ true → first cs ≡ m → m ≡ 0
+first-other m [] h e = sym e
+first-other m (c ∷ cs) h e =
+    let b = and-both (not (eqb (c .0) m)) (numberedBut m cs) h in
+    go (c .1) e (λ f. first-other m cs (b .1) f) (eqb-false (c .0) m (not-true (eqb (c .0) m) (b .0)))
+  where
+    go : (ok : Bool) → cond ok (first cs) (c .0) ≡ m → (first cs ≡ m → m ≡ 0) → (c .0 ≡ m → ⊥) → m ≡ 0
+    go true f g d = g f
+    go false f g d = absurd (d f)
 
 -- ---- checks made in two stages: those behind count only where those before found nothing
 

@@ -15,6 +15,7 @@ use Rattle.charset.specs.declared.CharAt.{CharAt}
 use Rattle.number.specs.Number.{writeRule}
 use Rattle.translator.specs.Translate.{Translated}
 use Rattle.bursts.specs.declared.Carried.{Carried}
+use Rattle.records.specs.Told.{Told}
 use Rattle.desk.specs.Label.{namePart}
 use Rattle.desk.specs.declared.cue.Cue.{Cue}
 use Rattle.cutting.specs.declared.parts.DeskLabel.{DeskLabel}
@@ -65,17 +66,17 @@ character-is = keeps flatCharacter
 pub number-is : (r : FlatNumber) (x y : Outcome ℤ) → r ≡ flatNumber x → x ≡ y → r ≡ flatNumber y
 number-is = keeps flatNumber
 
-pub cue-is : (r : FlatCue) (x y : Outcome Cue) → r ≡ flatCue x → x ≡ y → r ≡ flatCue y
+pub cue-is : (r : FlatCue) (x y : Outcome Cue × ℕ) → r ≡ flatCue x → x ≡ y → r ≡ flatCue y
 cue-is = keeps flatCue
 
-pub size-is : (r : FlatSize) (x y : Outcome ℕ) → r ≡ flatSize x → x ≡ y → r ≡ flatSize y
+pub size-is : (r : FlatSize) (x y : Told ℕ) → r ≡ flatSize x → x ≡ y → r ≡ flatSize y
 size-is = keeps flatSize
 
-pub name-is : (r : FlatName) (x y : Outcome (Sought (ℕ × ℕ))) → r ≡ flatName x → x ≡ y → r ≡ flatName y
+pub name-is : (r : FlatName) (x y : Told (Sought (ℕ × ℕ))) → r ≡ flatName x → x ≡ y → r ≡ flatName y
 name-is = keeps flatName
 
-pub name-part-is : (r : FlatPart) (x y : Outcome (Sought (ℕ × ℕ))) → r ≡ flatPart (namePart x) → x ≡ y → r ≡ flatPart (namePart y)
-name-part-is = keeps (λ (x : Outcome (Sought (ℕ × ℕ))). flatPart (namePart x))
+pub name-part-is : (r : FlatPart) (x y : Told (Sought (ℕ × ℕ))) → r ≡ flatPart (namePart x) → x ≡ y → r ≡ flatPart (namePart y)
+name-part-is = keeps (λ (x : Told (Sought (ℕ × ℕ))). flatPart (namePart x))
 
 -- the translation is the one that was passed
 pub comparison-is : (r : FlatComparison) (x : Outcome Comparison) (s : List ℕ) (string1 string2 : StrPtr) (code style : ℕ) (t passed : ℤ) → r ≡ flatComparison x

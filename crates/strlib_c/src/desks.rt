@@ -4,7 +4,7 @@ use flat::FlatPart;
 use flat::FlatSize;
 use flat_finds::FlatName;
 ghost use mathlib.Core.Path.{_≡_};
-ghost use Rattle.desk.specs.Cue.{cueRule};
+ghost use Rattle.desk.specs.Cue.{cueWordRule};
 ghost use Rattle.desk.specs.Label.{readLabelsRule, findLabelRule, namePart, addRule};
 ghost use Rattle.flat.specs.Strings.{flatWith, flatPart};
 ghost use Rattle.flat_finds.specs.Finds.{flatName};
@@ -12,7 +12,7 @@ ghost use Rattle.flat.specs.Values.{flatCue, flatSize};
 
 #[no_mangle]
 pub extern "C" fn strlib_read_cue(line: &[u8], microphones: usize, loudspeakers: usize) -> FlatCue
-    ensures { λ r. ⌜ r ≡ flatCue (cueRule (now (line .entry)) microphones loudspeakers) ⌝ }
+    ensures { λ r. ⌜ r ≡ flatCue (cueWordRule (now (line .entry)) microphones loudspeakers) ⌝ }
 {
     flat::cue(desk::read_cue(line, microphones, loudspeakers))
 }
@@ -25,14 +25,14 @@ pub extern "C" fn strlib_read_labels(list: &[u8]) -> FlatSize
 }
 
 #[no_mangle]
-pub extern "C" fn strlib_find_label(list: &[u8], kind: u8, number: usize) -> FlatName
+pub extern "C" fn strlib_find_label(list: &[u8], kind: usize, number: usize) -> FlatName
     ensures { λ r. ⌜ r ≡ flatName (findLabelRule (now (list .entry)) kind number) ⌝ }
 {
     flat_finds::name(desk::find_label(list, kind, number))
 }
 
 #[no_mangle]
-pub extern "C" fn strlib_label_name(list: &[u8], kind: u8, number: usize) -> FlatPart
+pub extern "C" fn strlib_label_name(list: &[u8], kind: usize, number: usize) -> FlatPart
     ensures { λ r. ⌜ r ≡ flatPart (namePart (findLabelRule (now (list .entry)) kind number)) ⌝ }
 {
     flat_finds::name_part(desk::find_label(list, kind, number))
@@ -42,7 +42,7 @@ pub extern "C" fn strlib_label_name(list: &[u8], kind: u8, number: usize) -> Fla
 pub extern "C" fn strlib_add_label(
     buffer: &mut [u8],
     used: usize,
-    kind: u8,
+    kind: usize,
     number: usize,
     name: &[u8],
 ) -> FlatSize

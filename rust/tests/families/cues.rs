@@ -3,7 +3,7 @@
 use crate::oracle::desk as oracle;
 use crate::support::rng::Rng;
 use crate::support::{raw, rounds, Call, ROUNDS};
-use strlib::{ffi, Cue, Refusal};
+use strlib::{ffi, Cue, CueRefusal};
 
 /// A number's word: in or around these bounds, out of the conversion's range, or no number.
 fn number_word(rng: &mut Rng, least: i64, most: i64) -> Vec<u8> {
@@ -87,6 +87,11 @@ fn damage(rng: &mut Rng, line: &mut Vec<u8>) {
     }
 }
 
+/// What comes with 11.
+const WORDS: [&str; 9] = [
+    "over 80", "word 1", "word 2", "word 3", "word 4", "word 5", "word 6", "word 7", "word 8",
+];
+
 #[test]
 fn cues_as_the_document_says() {
     let tally = rounds("cues", ROUNDS, |round| {
@@ -116,6 +121,12 @@ fn cues_as_the_document_says() {
             |l| unsafe { ffi::strlib_read_cue(l.as_mut_ptr(), l.len(), microphones, loudspeakers) },
             raw::cue,
         );
+        if let Err(CueRefusal {
+            word: Some(word), ..
+        }) = answer
+        {
+            round.met("read_cue", WORDS[word as usize]);
+        }
         if let Ok(cue) = answer {
             let kind = match cue.gain {
                 -960 => "least gain",
@@ -138,10 +149,16 @@ fn cues_as_the_document_says() {
             "at the matrix's bound",
         ],
     );
+    tally.expect("read_cue", &[2, 3, 7, 8, 11, 12], &WORDS);
 }
 
-fn read(line: &[u8]) -> Result<Cue, u8> {
-    strlib::read_cue(line, 64, 128).map_err(|refusal| refusal.0)
+/// The refusal's number and word.
+fn plain(answer: Result<Cue, CueRefusal>) -> Result<Cue, (u8, Option<u8>)> {
+    answer.map_err(|refusal| (refusal.number, refusal.word))
+}
+
+fn read(line: &[u8]) -> Result<Cue, (u8, Option<u8>)> {
+    plain(strlib::read_cue(line, 64, 128))
 }
 
 #[test]
@@ -154,33 +171,37 @@ fn lines_by_hand() {
         })
     };
     assert_eq!(read(b"MIC 7 TO LSP 31 GAIN -120"), cue(7, 31, -120));
-    assert_eq!(read(b"MIC 65 TO LSP 1 GAIN 0"), Err(12));
-    assert_eq!(read(b"MIC 7 TO LSP"), Err(11));
+    assert_eq!(read(b"MIC 65 TO LSP 1 GAIN 0"), Err((12, None)));
+    assert_eq!(read(b"MIC 7 TO LSP"), Err((11, Some(5))));
     assert_eq!(read(b"  MIC  64 TO LSP 0128 GAIN 120 "), cue(64, 128, 120));
     assert_eq!(read(b"MIC 1 TO LSP 1 GAIN -960"), cue(1, 1, -960));
-    assert_eq!(read(b"MIC 1 TO LSP 1 GAIN -961"), Err(12));
-    assert_eq!(read(b"MIC 1 TO LSP 1 GAIN 121"), Err(12));
-    assert_eq!(read(b"MIC 0 TO LSP 1 GAIN 0"), Err(12));
-    assert_eq!(read(b"MIC -1 TO LSP 1 GAIN 0"), Err(12));
-    assert_eq!(read(b"MIC 1 TO LSP 129 GAIN 0"), Err(12));
-    assert_eq!(read(b"MIC 65 TO LSP x GAIN 0"), Err(7));
-    assert_eq!(read(b"MIC 100000000000 TO LSP x GAIN 0"), Err(8));
-    assert_eq!(read(b"MIC 34359738367 TO LSP 1 GAIN 0"), Err(12));
-    assert_eq!(read(b"MIC 34359738368 TO LSP 1 GAIN 0"), Err(8));
-    assert_eq!(read(b"MIC 1 TO LSP 1 GAIN 0\r"), Err(7));
-    assert_eq!(read(b"MIC 1 TO LSP 1 GAIN\t0"), Err(11));
-    assert_eq!(read(b"mic 1 TO LSP 1 GAIN 0"), Err(11));
-    assert_eq!(read(b"MIC x TO LSP 1 GAINS 0"), Err(11));
-    assert_eq!(read(b"MIC x TO LSP 1 GAIN 0 0"), Err(11));
-    assert_eq!(read(b"MIC x TO \x80 1 GAIN 0 0"), Err(2));
-    assert_eq!(read(b""), Err(11));
-    assert_eq!(read(b"       "), Err(11));
+    assert_eq!(read(b"MIC 1 TO LSP 1 GAIN -961"), Err((12, None)));
+    assert_eq!(read(b"MIC 1 TO LSP 1 GAIN 121"), Err((12, None)));
+    assert_eq!(read(b"MIC 0 TO LSP 1 GAIN 0"), Err((12, None)));
+    assert_eq!(read(b"MIC -1 TO LSP 1 GAIN 0"), Err((12, None)));
+    assert_eq!(read(b"MIC 1 TO LSP 129 GAIN 0"), Err((12, None)));
+    assert_eq!(read(b"MIC 65 TO LSP x GAIN 0"), Err((7, None)));
+    assert_eq!(read(b"MIC 100000000000 TO LSP x GAIN 0"), Err((8, None)));
+    assert_eq!(read(b"MIC 34359738367 TO LSP 1 GAIN 0"), Err((12, None)));
+    assert_eq!(read(b"MIC 34359738368 TO LSP 1 GAIN 0"), Err((8, None)));
+    assert_eq!(read(b"MIC 1 TO LSP 1 GAIN 0\r"), Err((7, None)));
+    assert_eq!(read(b"MIC 1 TO LSP 1 GAIN\t0"), Err((11, Some(6))));
+    assert_eq!(read(b"mic 1 TO LSP 1 GAIN 0"), Err((11, Some(1))));
+    assert_eq!(read(b"MIC x TO LSP 1 GAINS 0"), Err((11, Some(6))));
+    assert_eq!(read(b"MIC x TO LSP 1 GAIN 0 0"), Err((11, Some(8))));
+    assert_eq!(read(b"MIC x TO \x80 1 GAIN 0 0"), Err((2, None)));
+    assert_eq!(read(b""), Err((11, Some(1))));
+    assert_eq!(read(b"       "), Err((11, Some(1))));
     let small = strlib::read_cue(b"MIC 2 TO LSP 1 GAIN 0", 1, 1);
-    assert_eq!(small, Err(Refusal(12)));
-    assert_eq!(strlib::read_cue(b"\x80", 0, 1), Err(Refusal(3)));
-    assert_eq!(strlib::read_cue(b"\x80", 65, 1), Err(Refusal(3)));
-    assert_eq!(strlib::read_cue(b"\x80", 64, 129), Err(Refusal(3)));
-    assert_eq!(strlib::read_cue(b"\x80", 64, 0), Err(Refusal(3)));
+    assert_eq!(plain(small), Err((12, None)));
+    for (microphones, loudspeakers) in [(0, 1), (65, 1), (64, 129), (64, 0)] {
+        let sizes = strlib::read_cue(b"\x80", microphones, loudspeakers);
+        assert_eq!(plain(sizes), Err((3, None)));
+    }
+    let said = |line: &[u8]| strlib::read_cue(line, 64, 128).unwrap_err().to_string();
+    assert_eq!(said(b"MIC 65 TO LSP 1 GAIN 0"), "refusal 12");
+    assert_eq!(said(b"MIC 7 TO LSP"), "refusal 11 at word 5");
+    assert_eq!(said(&[32; 81]), "refusal 11, over 80 characters");
 }
 
 #[test]
@@ -191,17 +212,17 @@ fn lines_of_80_characters_are_the_longest() {
         line.resize(80, 32);
         assert!(read(&line).is_ok());
         line.push(32);
-        assert_eq!(read(&line), Err(11));
+        assert_eq!(read(&line), Err((11, Some(0))));
     }
     let mut line = b"MIC 7 TO LSP 31 GAIN ".to_vec();
     line.resize(80, b'0');
     assert!(read(&line).is_ok());
     line.push(b'0');
-    assert_eq!(read(&line), Err(11));
+    assert_eq!(read(&line), Err((11, Some(0))));
     line.resize(65_536, 32);
-    assert_eq!(read(&line), Err(11));
+    assert_eq!(read(&line), Err((11, Some(0))));
     line[65_535] = 128;
-    assert_eq!(read(&line), Err(2));
+    assert_eq!(read(&line), Err((2, None)));
     line.push(32);
-    assert_eq!(read(&line), Err(3));
+    assert_eq!(read(&line), Err((3, None)));
 }

@@ -5,12 +5,12 @@ use crate::oracle::desk as oracle;
 use crate::support::rng::Rng;
 use crate::support::{raw, rounds, Always, Call, ROUNDS};
 use strlib::ffi::{self, PartAnswer};
-use strlib::{Name, Refusal};
+use strlib::{LabelRefusal, Name};
 
 const RECORD: usize = 19;
 
-fn record(kind: u8, number: usize, name: &[u8]) -> Vec<u8> {
-    let mut record = vec![kind, (number >> 8) as u8, number as u8];
+fn record(kind: usize, number: usize, name: &[u8]) -> Vec<u8> {
+    let mut record = vec![kind as u8, (number >> 8) as u8, number as u8];
     record.extend_from_slice(name);
     record.resize(RECORD, 32);
     record
@@ -21,8 +21,8 @@ fn name(rng: &mut Rng) -> Vec<u8> {
     (0..length).map(|_| rng.pick(b"Ab ~ \x21")).collect()
 }
 
-fn kind_and_number(rng: &mut Rng) -> (u8, usize) {
-    let kind = 1 + rng.below(2) as u8;
+fn kind_and_number(rng: &mut Rng) -> (usize, usize) {
+    let kind = 1 + rng.below(2);
     let most = if kind == 1 { 64 } else { 128 };
     let number = match rng.below(4) {
         0 => rng.pick(&[1, most]),
@@ -86,14 +86,17 @@ fn damage(rng: &mut Rng, list: &mut Vec<u8>) {
 }
 
 /// A kind and number, often those of a record, now and then out of range.
-fn lookup(rng: &mut Rng, list: &[u8]) -> (u8, usize) {
+fn lookup(rng: &mut Rng, list: &[u8]) -> (usize, usize) {
     let (kind, number) = kind_and_number(rng);
     match rng.below(16) {
         3..=9 if list.len() >= RECORD => {
             let front = RECORD * rng.below(list.len() / RECORD);
-            (list[front], list[front + 2] as usize)
+            (list[front] as usize, list[front + 2] as usize)
         }
-        0 => (rng.pick(&[0, 3, 255]), number),
+        0 => {
+            let kinds = [0, 3, 255, 256 + 1, 65_536 + 2, (1 << 32) + 1, usize::MAX];
+            (rng.pick(&kinds), number)
+        }
         1 => (1, rng.pick(&[0, 65, 128, 256 + 1, 65_536 + 1, usize::MAX])),
         2 => (2, rng.pick(&[0, 129, 256 + 1, 65_536 + 1, usize::MAX])),
         _ => (kind, number),
@@ -114,7 +117,15 @@ fn labels_as_the_document_says() {
         match records {
             Ok(0) => round.met("read_labels", "no records"),
             Ok(100..) => round.met("read_labels", "100 records or more"),
-            _ => {}
+            Ok(_) => {}
+            Err(refusal) => {
+                assert!(refusal.offset < list.len(), "{refusal}");
+                let before = strlib::read_labels(&list[..refusal.offset]);
+                assert_eq!(before, Ok(refusal.offset / RECORD));
+                if refusal.offset > 0 {
+                    round.met("read_labels", "a later record at fault");
+                }
+            }
         }
 
         let (kind, number) = lookup(&mut round.rng, &list);
@@ -151,14 +162,24 @@ fn labels_as_the_document_says() {
 
         add(round, list);
     });
-    let kinds = ["no records", "100 records or more"];
-    tally.expect("read_labels", &[2, 11, 12], &kinds);
+    let kinds = [
+        "no records",
+        "100 records or more",
+        "a later record at fault",
+    ];
+    tally.expect("read_labels", &[2, 11, 12, 13, 14], &kinds);
     let kinds = ["no record", "blank name", "whole name", "trimmed name"];
-    tally.expect("find_label", &[2, 11, 12], &kinds);
+    tally.expect("find_label", &[2, 11, 12, 13, 14], &kinds);
     let kinds = ["empty at the front", "empty at its place", "a name"];
     tally.expect("label_name", &[], &kinds);
-    let kinds = ["room for more", "buffer filled", "4 for the name"];
-    tally.expect("add_label", &[2, 4, 6, 11, 12], &kinds);
+    let kinds = [
+        "room for more",
+        "buffer filled",
+        "4 for the name",
+        "14 behind a good list",
+        "14 in the list",
+    ];
+    tally.expect("add_label", &[2, 4, 6, 11, 12, 13, 14], &kinds);
 }
 
 /// Adds a record behind the list in a buffer.
@@ -197,8 +218,12 @@ fn add(round: &mut crate::support::Round, list: Vec<u8>) {
     match answer {
         Ok(_) if room == RECORD => round.met("add_label", "buffer filled"),
         Ok(_) => round.met("add_label", "room for more"),
-        Err(Refusal(4)) if name.len() > 16 => round.met("add_label", "4 for the name"),
-        Err(_) => {}
+        Err(LabelRefusal { number, offset }) => match number {
+            4 if name.len() > 16 => round.met("add_label", "4 for the name"),
+            14 if offset == length => round.met("add_label", "14 behind a good list"),
+            14 => round.met("add_label", "14 in the list"),
+            _ => {}
+        },
     }
 }
 
@@ -219,10 +244,15 @@ fn a_list_of_192_records_is_the_fullest() {
     let name = strlib::find_label(&list, 2, 128).unwrap().unwrap();
     assert_eq!((name.place, name.length), (191 * 19 + 3, 7));
     list.extend(record(2, 128, b"again"));
-    assert_eq!(strlib::read_labels(&list), Err(Refusal(11)));
-    assert_eq!(strlib::find_label(&list, 3, 0), Err(Refusal(11)));
+    let repeated = LabelRefusal {
+        number: 14,
+        offset: 3_648,
+    };
+    assert_eq!(strlib::read_labels(&list), Err(repeated));
+    assert_eq!(strlib::find_label(&list, 3, 0), Err(repeated));
     let added = strlib::add_label(&mut list, 3_648, 1, 64, b"again");
-    assert_eq!(added, Err(Refusal(11)));
+    assert_eq!(added, Err(repeated));
+    assert_eq!(repeated.to_string(), "refusal 14 at offset 3648");
 }
 
 #[test]
@@ -233,7 +263,8 @@ fn a_list_is_written_record_by_record() {
     for record in full.chunks(RECORD) {
         let number = record[2] as usize;
         let name: &[u8] = if record[0] == 1 { b"Mic" } else { b"Speaker" };
-        length = strlib::add_label(&mut buffer, length, record[0], number, name).unwrap();
+        let kind = record[0] as usize;
+        length = strlib::add_label(&mut buffer, length, kind, number, name).unwrap();
     }
     assert_eq!(length, full.len());
     assert_eq!(buffer[..length], full);
@@ -242,26 +273,26 @@ fn a_list_is_written_record_by_record() {
 
 #[test]
 fn records_by_hand() {
-    let read = |list: &[u8]| strlib::read_labels(list).map_err(|refusal| refusal.0);
+    let read = |list: &[u8]| strlib::read_labels(list).map_err(|r| (r.number, r.offset));
     assert_eq!(read(b""), Ok(0));
-    assert_eq!(read(&[0]), Err(11));
-    assert_eq!(read(&[1]), Err(11));
+    assert_eq!(read(&[0]), Err((11, 0)));
+    assert_eq!(read(&[1]), Err((13, 0)));
     assert_eq!(read(&record(1, 64, b"x")), Ok(1));
-    assert_eq!(read(&record(1, 65, b"x")), Err(12));
+    assert_eq!(read(&record(1, 65, b"x")), Err((12, 0)));
     assert_eq!(read(&record(2, 128, b"x")), Ok(1));
-    assert_eq!(read(&record(2, 129, b"x")), Err(12));
-    assert_eq!(read(&record(2, 0, b"x")), Err(12));
-    assert_eq!(read(&record(2, 256 + 1, b"x")), Err(12));
-    assert_eq!(read(&record(2, 0, b"\x7f")), Err(12)); // 12 before 2
-    assert_eq!(read(&record(3, 0, b"\x7f")), Err(11));
-    assert_eq!(read(&record(2, 1, b"\x7f")), Err(2));
-    assert_eq!(read(&record(2, 1, b"\x1f")), Err(2));
+    assert_eq!(read(&record(2, 129, b"x")), Err((12, 0)));
+    assert_eq!(read(&record(2, 0, b"x")), Err((12, 0)));
+    assert_eq!(read(&record(2, 256 + 1, b"x")), Err((12, 0)));
+    assert_eq!(read(&record(2, 0, b"\x7f")), Err((12, 0))); // 12 before 2
+    assert_eq!(read(&record(3, 0, b"\x7f")), Err((11, 0)));
+    assert_eq!(read(&record(2, 1, b"\x7f")), Err((2, 0)));
+    assert_eq!(read(&record(2, 1, b"\x1f")), Err((2, 0)));
     assert_eq!(read(&record(2, 1, b" ~")), Ok(1));
-    assert_eq!(read(&record(2, 0, b"x")[..18]), Err(11)); // a short body before its number
+    assert_eq!(read(&record(2, 0, b"x")[..18]), Err((13, 0))); // a short body before its number
     let twice = [record(1, 1, b"x"), record(1, 1, b"\x7f")].concat();
-    assert_eq!(read(&twice), Err(2)); // 2 before 11 for a repeated one
+    assert_eq!(read(&twice), Err((2, 19))); // 2 before 14
     let twice = [record(1, 1, b"x"), record(2, 1, b"x"), record(1, 1, b"x")].concat();
-    assert_eq!(read(&twice), Err(11));
+    assert_eq!(read(&twice), Err((14, 38)));
     assert_eq!(read(&twice[..38]), Ok(2));
     let blank = record(1, 9, b"");
     let name = strlib::label_name(&blank, 1, 9);
@@ -276,23 +307,23 @@ fn the_writer_refuses_in_order() {
     buffer.resize(38, 7);
     let before = buffer.clone();
     let mut add = |length, kind, number, name: &[u8]| {
-        strlib::add_label(&mut buffer, length, kind, number, name).map_err(|refusal| refusal.0)
+        strlib::add_label(&mut buffer, length, kind, number, name).map_err(|r| (r.number, r.offset))
     };
     let long = b"seventeen letters";
-    assert_eq!(add(39, 3, 0, long), Err(4));
-    assert_eq!(add(usize::MAX, 3, 0, long), Err(4));
-    assert_eq!(add(38, 3, 0, long), Err(11)); // the list's second record
-    assert_eq!(add(20, 1, 2, b""), Err(11));
-    assert_eq!(add(19, 3, 0, long), Err(11));
-    assert_eq!(add(19, 1, 0, long), Err(12));
-    assert_eq!(add(19, 1, 65, long), Err(12));
-    assert_eq!(add(19, 1, 1, b"\x7f0123456789abcdef"), Err(4));
-    assert_eq!(add(19, 1, 1, b"\x7f"), Err(2));
-    assert_eq!(add(19, 1, 1, b""), Err(11));
+    assert_eq!(add(39, 3, 0, long), Err((4, 39)));
+    assert_eq!(add(usize::MAX, 3, 0, long), Err((4, usize::MAX)));
+    assert_eq!(add(38, 3, 0, long), Err((11, 19))); // the list's second record
+    assert_eq!(add(20, 1, 2, b""), Err((11, 19)));
+    assert_eq!(add(19, 3, 0, long), Err((11, 19)));
+    assert_eq!(add(19, 1, 0, long), Err((12, 19)));
+    assert_eq!(add(19, 1, 65, long), Err((12, 19)));
+    assert_eq!(add(19, 1, 1, b"\x7f0123456789abcdef"), Err((4, 19)));
+    assert_eq!(add(19, 1, 1, b"\x7f"), Err((2, 19)));
+    assert_eq!(add(19, 1, 1, b""), Err((14, 19)));
     assert_eq!(add(19, 1, 2, b"0123456789abcdef"), Ok(38));
-    assert_eq!(add(38, 2, 1, b"\x7f"), Err(2));
-    assert_eq!(add(38, 1, 2, b""), Err(11));
-    assert_eq!(add(38, 2, 1, b""), Err(6));
+    assert_eq!(add(38, 2, 1, b"\x7f"), Err((2, 38)));
+    assert_eq!(add(38, 1, 2, b""), Err((14, 38)));
+    assert_eq!(add(38, 2, 1, b""), Err((6, 38)));
     assert_eq!(add(0, 2, 128, b""), Ok(19));
     assert_eq!(buffer[19..], record(1, 2, b"0123456789abcdef"));
     assert_eq!(buffer[..19], record(2, 128, b""));

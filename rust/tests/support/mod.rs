@@ -9,7 +9,7 @@ use rng::Rng;
 use std::collections::BTreeMap;
 use std::fmt::{self, Debug};
 use std::{env, str::FromStr};
-use strlib::{Refusal, StrPtr};
+use strlib::{CueRefusal, LabelRefusal, Refusal, StrPtr};
 
 const SEED: u64 = 1979;
 
@@ -179,12 +179,35 @@ pub trait Outcome {
     fn refusal(&self) -> u8;
 }
 
-impl<T> Outcome for Result<T, Refusal> {
+impl<T, E: Numbered> Outcome for Result<T, E> {
     fn refusal(&self) -> u8 {
         match self {
             Ok(_) => 0,
-            Err(Refusal(number)) => *number,
+            Err(refusal) => refusal.number(),
         }
+    }
+}
+
+/// A refusal, whatever comes with its number.
+pub trait Numbered {
+    fn number(&self) -> u8;
+}
+
+impl Numbered for Refusal {
+    fn number(&self) -> u8 {
+        self.0
+    }
+}
+
+impl Numbered for CueRefusal {
+    fn number(&self) -> u8 {
+        self.number
+    }
+}
+
+impl Numbered for LabelRefusal {
+    fn number(&self) -> u8 {
+        self.number
     }
 }
 
@@ -204,22 +227,25 @@ impl<T: Debug> Debug for Always<T> {
     }
 }
 
+const NAMES: [&str; 15] = [
+    "answered",
+    "refused 1",
+    "refused 2",
+    "refused 3",
+    "refused 4",
+    "refused 5",
+    "refused 6",
+    "refused 7",
+    "refused 8",
+    "refused 9",
+    "refused 10",
+    "refused 11",
+    "refused 12",
+    "refused 13",
+    "refused 14",
+];
+
 fn refusal_name(number: u8) -> &'static str {
-    const NAMES: [&str; 13] = [
-        "answered",
-        "refused 1",
-        "refused 2",
-        "refused 3",
-        "refused 4",
-        "refused 5",
-        "refused 6",
-        "refused 7",
-        "refused 8",
-        "refused 9",
-        "refused 10",
-        "refused 11",
-        "refused 12",
-    ];
     NAMES[number as usize]
 }
 
@@ -243,9 +269,8 @@ impl Tally {
         }
         let met = &self.met[call];
         println!("{}: {call} {met:?}", self.family);
-        for number in 0..=12 {
-            let name = refusal_name(number);
-            let allowed = number == 0 || refusals.contains(&number);
+        for (number, name) in NAMES.iter().enumerate() {
+            let allowed = number == 0 || refusals.contains(&(number as u8));
             assert_eq!(met.contains_key(name), allowed, "{call}: {name}");
         }
         for kind in kinds {

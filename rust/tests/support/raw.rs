@@ -1,9 +1,10 @@
-//! Answers as the C interface gives them: a refusal leaves every other field 0, and so does nothing found, but for the
-//! number that a run read.
+//! Answers as the C interface gives them: a refusal leaves every other field 0 but a cue line's word and a label list's
+//! offset, and so does nothing found but the number that a run read.
 
 use strlib::ffi::*;
 use strlib::{
-    Character, Comparison, Copied, Cue, Match, Name, Note, Refusal, Round, Run, Split, StrPtr,
+    Character, Comparison, Copied, Cue, CueRefusal, LabelRefusal, Match, Name, Note, Refusal,
+    Round, Run, Split, StrPtr,
 };
 
 pub fn done(answer: &Result<(), Refusal>) -> u8 {
@@ -53,11 +54,41 @@ answers! {
         Ok(Some(Character { code, position })) => { found: true, code: code, position: position };
     number: i64 => NumberAnswer,
         Ok(value) => { value: value };
-    cue: Cue => CueAnswer,
-        Ok(Cue { microphone, loudspeaker, gain }) => { microphone: microphone, loudspeaker: loudspeaker, gain: gain };
-    size: usize => SizeAnswer,
-        Ok(value) => { value: value };
-    name: Option<Name> => NameAnswer,
-        Ok(None) => {},
-        Ok(Some(Name { place, length })) => { found: true, place: place, length: length };
+}
+
+pub fn cue(answer: &Result<Cue, CueRefusal>) -> CueAnswer {
+    let mut raw = CueAnswer::default();
+    match *answer {
+        Ok(cue) => {
+            raw.microphone = cue.microphone;
+            raw.loudspeaker = cue.loudspeaker;
+            raw.gain = cue.gain;
+        }
+        Err(CueRefusal { number, word }) => {
+            raw.refusal = number;
+            raw.word = word.unwrap_or(0);
+        }
+    }
+    raw
+}
+
+pub fn size(answer: &Result<usize, LabelRefusal>) -> SizeAnswer {
+    let mut raw = SizeAnswer::default();
+    match *answer {
+        Ok(value) => raw.value = value,
+        Err(LabelRefusal { number, offset }) => (raw.refusal, raw.offset) = (number, offset),
+    }
+    raw
+}
+
+pub fn name(answer: &Result<Option<Name>, LabelRefusal>) -> NameAnswer {
+    let mut raw = NameAnswer::default();
+    match *answer {
+        Ok(None) => {}
+        Ok(Some(Name { place, length })) => {
+            (raw.found, raw.place, raw.length) = (true, place, length)
+        }
+        Err(LabelRefusal { number, offset }) => (raw.refusal, raw.offset) = (number, offset),
+    }
+    raw
 }

@@ -1,38 +1,51 @@
 // Adding a label behind a good list in a lent buffer.
 use super::read;
 use super::read::LabelCount;
+use records::Fault;
 ghost use mathlib.Core.Path.{_≡_};
-ghost use Rattle.desk.specs.Label.{addRefusal, labelAdded, addRule};
+ghost use Rattle.desk.specs.Label.{labelAdded, addRule};
+ghost use Rattle.desk.specs.LabelInner.{addFault};
 
 // The answer of the writer: the list's new length.
 pub enum LabelAdded {
     Added(usize),
-    Refused(u8),
+    Refused(Fault),
 }
 
-fn add_refusal(buffer: &[u8], used: usize, kind: u8, number: usize, name: &[u8]) -> u8
-    ensures { λ r. ⌜ r ≡ addRefusal (now (buffer .entry)) used kind number (now (name .entry)) ⌝ }
+// What is refused, with the number 0 for nothing.
+fn add_fault(buffer: &[u8], used: usize, kind: usize, number: usize, name: &[u8]) -> Fault
+    ensures { λ r. ⌜ r ≡ addFault (now (buffer .entry)) used kind number (now (name .entry)) ⌝ }
 {
     if buffer.len() < used {
-        return 4;
+        return Fault {
+            number: 4,
+            offset: used,
+        };
     }
     let list = &buffer[..used];
     let count = read::read_labels(list);
     match count {
-        LabelCount::Records(_) => {
-            records::new_refusal(list, buffer.len() - used, kind, number, name)
-        }
-        LabelCount::Refused(found) => found,
+        LabelCount::Records(_) => Fault {
+            number: records::new_refusal(list, buffer.len() - used, kind, number, name),
+            offset: list.len(),
+        },
+        LabelCount::Refused(fault) => fault,
     }
 }
 
 // Adds one record behind the list, which is the first `used` bytes of the buffer.
-pub fn add_label(buffer: &mut [u8], used: usize, kind: u8, number: usize, name: &[u8]) -> LabelAdded
+pub fn add_label(
+    buffer: &mut [u8],
+    used: usize,
+    kind: usize,
+    number: usize,
+    name: &[u8],
+) -> LabelAdded
     ensures { λ r. ⌜ (labelAdded r, now (buffer .exit)) ≡ addRule (now (buffer .entry)) used kind number (now (name .entry)) ⌝ }
 {
-    let found = add_refusal(buffer, used, kind, number, name);
-    if found != 0 {
-        return LabelAdded::Refused(found);
+    let fault = add_fault(buffer, used, kind, number, name);
+    if fault.number != 0 {
+        return LabelAdded::Refused(fault);
     }
     records::write_record(buffer, used, kind, number, name);
     LabelAdded::Added(used + records::size_of(kind))

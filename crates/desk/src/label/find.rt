@@ -1,9 +1,10 @@
 // Looking up a label by kind and number.
 use super::read;
 use super::read::LabelCount;
+use records::Fault;
 ghost use mathlib.Core.Path.{_≡_};
-ghost use Rattle.strlib.specs.Refusal.{gives};
 ghost use Rattle.cutting.specs.Part.{IsPart};
+ghost use Rattle.records.specs.Told.{tells};
 ghost use Rattle.desk.specs.Label.{nameOf, labelPlaced, findLabelRule, namePart};
 ghost use Rattle.desk.specs.LabelInner.{Counted};
 
@@ -11,13 +12,13 @@ ghost use Rattle.desk.specs.LabelInner.{Counted};
 pub enum LabelPlace {
     Found { place: usize, length: usize },
     Missing,
-    Refused(u8),
+    Refused(Fault),
 }
 
 // The name of record k, counted from 1; missing for 0.
 fn name_of(list: &[u8], k: usize) -> LabelPlace
     requires { ⌜ Counted (now list) k ⌝ }
-    ensures { λ r. ⌜ labelPlaced r ≡ gives (nameOf (now (list .entry)) k) ⌝ }
+    ensures { λ r. ⌜ labelPlaced r ≡ tells (nameOf (now (list .entry)) k) ⌝ }
 {
     if k == 0 {
         return LabelPlace::Missing;
@@ -31,7 +32,7 @@ fn name_of(list: &[u8], k: usize) -> LabelPlace
     }
 }
 
-pub fn find_label(list: &[u8], kind: u8, number: usize) -> LabelPlace
+pub fn find_label(list: &[u8], kind: usize, number: usize) -> LabelPlace
     ensures { λ r. ⌜ labelPlaced r ≡ findLabelRule (now (list .entry)) kind number ⌝ }
 {
     let count = read::read_labels(list);
@@ -39,16 +40,19 @@ pub fn find_label(list: &[u8], kind: u8, number: usize) -> LabelPlace
         LabelCount::Records(_) => {
             let found = records::key_refusal(kind, number);
             if found != 0 {
-                return LabelPlace::Refused(found);
+                return LabelPlace::Refused(Fault {
+                    number: found,
+                    offset: list.len(),
+                });
             }
             name_of(list, records::find_record(list, kind, number))
         }
-        LabelCount::Refused(found) => LabelPlace::Refused(found),
+        LabelCount::Refused(fault) => LabelPlace::Refused(fault),
     }
 }
 
 // The trimmed name itself; on a refusal or no record the empty part at the list's front.
-pub fn label_name(list: &[u8], kind: u8, number: usize) -> &[u8]
+pub fn label_name(list: &[u8], kind: usize, number: usize) -> &[u8]
     ensures { λ r. ⌜ IsPart r (list .entry) (namePart (findLabelRule (now (list .entry)) kind number)) ⌝ }
 {
     let found = find_label(list, kind, number);

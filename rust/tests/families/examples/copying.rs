@@ -108,9 +108,11 @@ fn examples_of_copying() {
         let list = StrList::new(strings);
         for (whose, join_from) in both([strlib::join_from, copying::join_from]) {
             let call = |store: &mut [u8]| {
-                let round = join_from(store, to, &list, Place { string, character })?;
-                let next = (round.next.string, round.next.character);
-                Ok((round.to, round.completed, next))
+                let round = join_from(store, to, &list, Place { string, character });
+                round.map(|round| {
+                    let next = (round.next.string, round.next.character);
+                    (round.to, round.completed, next)
+                })
             };
             writes(example, whose, store, want, call);
         }

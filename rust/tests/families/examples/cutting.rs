@@ -3,7 +3,7 @@
 use super::{answers, both, p, Want};
 use crate::families::place;
 use crate::oracle::cutting;
-use strlib::StrPtr;
+use strlib::{Refusal, StrPtr};
 
 /// A label, then a byte that is no character; its eight characters, in a room of nine.
 const LABELLED: &[u8] = b"LSP 31  \xc8";
@@ -66,7 +66,7 @@ fn examples_of_cutting() {
     ];
     for (example, part, oracle, want) in parts {
         for (whose, part) in both([place(s, part), oracle]) {
-            answers(example, whose, Ok(part), Ok(want));
+            answers::<_, Refusal>(example, whose, Ok(part), Ok(want));
         }
     }
 }

@@ -7,6 +7,8 @@ records-spec =
     tie.close
     (tie.spec
     (λ c. search value-laws)
+    (λ c κs. tt)
     (λ c. search value-laws)
+    (λ c κs. tt)
     (λ c. search value-laws)
     (λ c. search value-laws))

@@ -7,4 +7,5 @@ kind-of-spec =
     tie.close
     (tie.spec
     (λ c κs. tt)
+    (λ c. search front-laws)
     (λ c. search front-laws))

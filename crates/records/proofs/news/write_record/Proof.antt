@@ -11,6 +11,7 @@ write-record-spec =
     (λ c. search build-laws)
     (λ c. search build-laws)
     (λ c. search build-laws)
+    (λ c. search build-laws)
     (λ c κs. tt)
     (λ c κs. tt)
     (λ c κs. tt)

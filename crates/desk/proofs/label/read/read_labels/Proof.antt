@@ -6,10 +6,10 @@ use Rattle.desk.proofs.label.read.read_labels.Statement.{statement}
 use Rattle.desk.proofs.label.read.read_labels.Tie as tie
 
 abbrev Inv-loop : tie.InvT-loop
-Inv-loop list met₀ at₀ n₀ met at n = Reached list n at × Marked met (take at list)
+Inv-loop list met₀ offset₀ n₀ met offset n = Reached list n offset × Marked met (take offset list)
 
 abbrev μ-loop : tie.MeasureT-loop
-μ-loop list met₀ at₀ n₀ met at n = length list - at
+μ-loop list met₀ offset₀ n₀ met offset n = length list - offset
 
 pub read-labels-spec : {M : Type 1} → statement M
 read-labels-spec =

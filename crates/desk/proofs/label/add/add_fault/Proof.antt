@@ -1,9 +1,9 @@
 use Rattle.desk.proofs.LabelAdding.{refusal-laws}
-use Rattle.desk.proofs.label.add.add_refusal.Statement.{statement}
-use Rattle.desk.proofs.label.add.add_refusal.Tie as tie
+use Rattle.desk.proofs.label.add.add_fault.Statement.{statement}
+use Rattle.desk.proofs.label.add.add_fault.Tie as tie
 
-pub add-refusal-spec : {M : Type 1} → statement M
-add-refusal-spec =
+pub add-fault-spec : {M : Type 1} → statement M
+add-fault-spec =
     tie.close
     (tie.spec
     (λ c. search refusal-laws)

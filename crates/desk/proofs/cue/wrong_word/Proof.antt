@@ -1,16 +1,16 @@
-use Rattle.desk.proofs.CueWords.{formed-by}
 use borrow.Author.Needs.{needs}
-use Rattle.desk.proofs.cue.has_form.Statement.{statement}
-use Rattle.desk.proofs.cue.has_form.Tie as tie
+use Rattle.desk.proofs.CueWords.{wrong-by}
+use Rattle.desk.proofs.cue.wrong_word.Statement.{statement}
+use Rattle.desk.proofs.cue.wrong_word.Tie as tie
 
-pub has-form-spec : {M : Type 1} → statement M
-has-form-spec =
+pub wrong-word-spec : {M : Type 1} → statement M
+wrong-word-spec =
     tie.close
     (tie.spec
     (λ c. search needs)
     (λ c. search needs)
     (λ c κs. tt)
-    (λ c. search needs)
+    (λ c κs. tt)
     (λ c. search needs)
     (λ c κs. tt)
     (λ c. search needs)
@@ -20,10 +20,15 @@ has-form-spec =
     (λ c. search needs)
     (λ c. search needs)
     (λ c κs. tt)
+    (λ c κs. tt)
+    (λ c. search needs)
+    (λ c κs. tt)
     (λ c. search needs)
     (λ c. search needs)
     (λ c κs. tt)
     (λ c κs. tt)
+    (λ c. search needs)
     (λ c κs. tt)
+    (λ c. search needs)
     (λ c κs. tt)
-    (λ c. search (needs, formed-by)))
+    (λ c. search (needs, wrong-by)))

@@ -3,8 +3,9 @@
  * Every call takes any bytes, string pointers and numbers and checks them itself. A refusal gives its number (README.md has
  * the table), 0 being none, and changes nothing that was lent. On a refusal all other fields of the answer are 0, down
  * to those of a pointer or place in it, but for three: what strlib_burst's answer carries, which is what was given (see
- * strlib_burst_answer), a cue line's `word` and a label list's `offset`. Nothing found is no refusal; then too all
- * fields are 0, `found` with them, but for the number read in a strlib_note and for what a burst's run carries on.
+ * strlib_burst_answer), the `word` of a strlib_cue, and the `offset` of a strlib_size and of a strlib_name. Nothing found
+ * is no refusal; then too all fields are 0, `found` with them, but for the number read in a strlib_note and for what a
+ * burst's run carries on.
  *
  * Memory is lent as a pointer and a number of elements; with the number 0 the pointer may be NULL. What is lent to be
  * written (a pointer without const) shares no byte with anything else lent to the same call. Each call is proved to
@@ -95,12 +96,13 @@ typedef struct { uint8_t refusal; int64_t value; } strlib_number;
  * missing fixed word or missing number, the words counted from 1 by their places, else 8 if there is an eighth word */
 typedef struct { uint8_t refusal; uint8_t word; size_t microphone, loudspeaker; int64_t gain; } strlib_cue;
 
-/* `offset` comes with every refusal of a label list and is 0 else: where the faulty record's kind byte lies (from 0), or
- * the list's length where no record in the list is at fault; for strlib_add_label that is the length it was told */
+/* how many records, or the list's new length; `offset` comes with every refusal and is 0 else: where the faulty
+ * record's kind byte lies (from 0), or the list's length where no record in the list is at fault; for strlib_add_label
+ * that is the length it was told */
 typedef struct { uint8_t refusal; size_t offset; size_t value; } strlib_size;
 
 /* a lookup in the label list; where found: the trimmed name's place in it (from 0) and its length, 0 for a blank name;
- * no record: both 0 */
+ * no record: both 0; `offset` as in strlib_size */
 typedef struct { uint8_t refusal; bool found; size_t offset; size_t place, length; } strlib_name;
 
 /* ---- pointers */
@@ -205,7 +207,7 @@ strlib_cue strlib_read_cue(const uint8_t *line, size_t line_length, size_t micro
 /* how many records: refusals, record by record, 11 (kind), 13 (body cut short), 12, 2, 14 (kind and number repeated) */
 strlib_size strlib_read_labels(const uint8_t *list, size_t list_length);
 
-/* kind 1 microphone, 2 loudspeaker; every other number is refused, 257 too: the list's refusals, then 11 (kind), 12 */
+/* kind 1 microphone, 2 loudspeaker; every other kind is refused, 257 too: the list's refusals, then 11 (kind), 12 */
 strlib_name strlib_find_label(const uint8_t *list, size_t list_length, size_t kind, size_t number);
 
 /* the same as a part: on a refusal or no record the empty part at the front */

@@ -49,7 +49,7 @@ module _ (b : List ℕ) (n : ℕ) (b′ : List ℕ) (r : ℕ) (a : CueAnswer) wh
   unfolding cueText
   cue-ok c e g = rw e g
 
-  pub cue-not : (f : CueFault) → a ≡ Refused f → (r, b′) ≡ grown b n (bytes " refused " ++ digits 10 (f .number)) → (r, b′) ≡ grown b n (cueText (cueAnswered a))
+  pub cue-not : (f : CueFault) → a ≡ Refused f → (r, b′) ≡ grown b n (bytes " refused " ++ digits 10 (f .refusal)) → (r, b′) ≡ grown b n (cueText (cueAnswered a))
   unfolding cueText
   cue-not f e g = rw e g
 

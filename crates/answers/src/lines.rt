@@ -64,7 +64,7 @@ fn put_cue(out: &mut [u8], n: usize, cue: CueAnswer) -> usize
 {
     match cue {
         CueAnswer::Cue(c) => put_ok(out, n, c),
-        CueAnswer::Refused(f) => buffer::append_both(out, n, b" refused ", f.number as u64),
+        CueAnswer::Refused(f) => buffer::append_both(out, n, b" refused ", f.refusal as u64),
     }
 }
 

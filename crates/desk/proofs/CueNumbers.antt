@@ -18,7 +18,7 @@ use Rattle.strlib.proofs.Refusing.{and-both, outcome-no, outcome-yes}
 use Rattle.strlib.specs.Refusal.{Outcome, refused, gives, first}
 use Rattle.desk.specs.declared.cue.Cue.{Cue}
 use Rattle.desk.specs.Cue.{isIndex, isGain, matrixChecks, cueOf}
-use Rattle.desk.specs.CueInner.{indexOf, wordless, inMatrix, inOrder}
+use Rattle.desk.specs.CueInner.{refusedWord, indexOf, wordless, inMatrix, inOrder}
 
 -- ---- an index
 
@@ -93,10 +93,11 @@ module _ (mics lsps : ℕ) (n n′ m m′ g g′ : ℤ) (i j : ℕ) (a b c : Boo
       let y : j ≡ natAbs m = ej ∙ rw em (index-value lsps m (q .1)) in
       ap wordless (outcome-yes 0 (first (matrixChecks mics lsps n m g)) (rw (q .0, q .1, p .1)) _ (cueOf n m g) refl (rw (x, y, eg)))
 
-  pub matrix-out : c ≡ false → wordless (refused 12) ≡ wordless (inMatrix mics lsps n m g)
+  pub matrix-out : (r : Outcome Cue × ℕ) → c ≡ false → r ≡ refusedWord 12 0 → r ≡ wordless (inMatrix mics lsps n m g)
   unfolding inMatrix
-  matrix-out t =
-      ap wordless
+  matrix-out r t f =
+      f
+      ∙ ap wordless
       (outcome-no 12 (first (matrixChecks mics lsps n m g)) (go (isIndex mics n) (isIndex lsps m) (isGain g) (sym tests ∙ t)) (cueOf n m g) (λ (z : _≡_ {A = ℕ} 12 0). omega arith))
     where
       go : (x y z : Bool) → ((x && y) && z) ≡ false → _≡_ {A = ℕ} 12 (cond x (cond y (cond z 0 12) 12) 12)
@@ -113,17 +114,17 @@ module _ (mics lsps : ℕ) (n m g : NumberAnswer) where
   abbrev whole : Outcome Cue
   whole = inOrder mics lsps (numberAnswered n) (numberAnswered m) (numberAnswered g)
 
-  pub first-bad : (k : ℕ) → n ≡ NoNumber k → wordless (refused k) ≡ wordless whole
+  pub first-bad : (r : Outcome Cue × ℕ) (k : ℕ) → n ≡ NoNumber k → r ≡ refusedWord k 0 → r ≡ wordless whole
   unfolding inOrder
-  first-bad k e = rw e
+  first-bad r k e q = rw e q
 
-  pub second-bad : (k : ℕ) (x : ℤ) → n ≡ Number x → m ≡ NoNumber k → wordless (refused k) ≡ wordless whole
+  pub second-bad : (r : Outcome Cue × ℕ) (k : ℕ) (x : ℤ) → n ≡ Number x → m ≡ NoNumber k → r ≡ refusedWord k 0 → r ≡ wordless whole
   unfolding inOrder
-  second-bad k x e f = rw (e, f)
+  second-bad r k x e f q = rw (e, f) q
 
-  pub third-bad : (k : ℕ) (x y : ℤ) → n ≡ Number x → m ≡ Number y → g ≡ NoNumber k → wordless (refused k) ≡ wordless whole
+  pub third-bad : (r : Outcome Cue × ℕ) (k : ℕ) (x y : ℤ) → n ≡ Number x → m ≡ Number y → g ≡ NoNumber k → r ≡ refusedWord k 0 → r ≡ wordless whole
   unfolding inOrder
-  third-bad k x y e f h = rw (e, f, h)
+  third-bad r k x y e f h q = rw (e, f, h) q
 
   pub none-bad : (r : Outcome Cue × ℕ) (x y z : ℤ) → n ≡ Number x → m ≡ Number y → g ≡ Number z → r ≡ wordless (inMatrix mics lsps x y z) → r ≡ wordless whole
   unfolding inOrder

@@ -23,7 +23,7 @@ use Rattle.words.specs.Words.{words, firstWords}
 use Rattle.desk.specs.declared.cue.Cue.{Cue}
 use Rattle.desk.specs.Cue.{wrongWord, formed, isSize, micWord, lspWord, gainWord, lineChecks, matrixChecks, numberChecks, wordChecks, cueOf}
 use Rattle.desk.specs.Cue.{cueRefusal, cueRule, cueWord, cueWordRule}
-use Rattle.desk.specs.CueInner.{lineRefusal, wordless, inMatrix, inOrder}
+use Rattle.desk.specs.CueInner.{refusedWord, lineRefusal, wordless, inMatrix, inOrder}
 
 -- ---- the checks before the words
 
@@ -107,9 +107,9 @@ module _ (s : List ℕ) (mics lsps k : ℕ) (ek : k ≡ lineRefusal s mics lsps)
     unfolding cueWord
     no-word = rw (← early) (bool-case (eqb k 11) (λ t. rw (t, long (eqb-true k 11 t))) (λ f. rw f))
 
-    pub cue-line : (refused k, 0) ≡ cueWordRule s mics lsps
+    pub cue-line : (r : Outcome Cue × ℕ) → r ≡ refusedWord k 0 → r ≡ cueWordRule s mics lsps
     unfolding cueRule
-    cue-line = rw (← no-word) (ap wordless (outcome-no k (cueRefusal s mics lsps) early (cue s) h))
+    cue-line r e = e ∙ rw (← no-word) (ap wordless (outcome-no k (cueRefusal s mics lsps) early (cue s) h))
 
   module _ (z : k ≡ 0) (w : ℕ) (ew : w ≡ wrongWord s) where
     passes : LinePassed s
@@ -120,13 +120,13 @@ module _ (s : List ℕ) (mics lsps k : ℕ) (ek : k ≡ lineRefusal s mics lsps)
     unfolding cueRefusal lineRefusal formed
     behind = first-behind (lineChecks s mics lsps) (wordChecks s mics lsps) refl (sym ek ∙ z) ∙ rw ew
 
-    pub cue-form : (w ≡ 0 → ⊥) → (refused 11, w) ≡ cueWordRule s mics lsps
+    pub cue-form : (o : Outcome Cue × ℕ) → (w ≡ 0 → ⊥) → o ≡ refusedWord 11 w → o ≡ cueWordRule s mics lsps
     unfolding cueRule cueWord
-    cue-form f =
+    cue-form o f e =
         let r : cueRefusal s mics lsps ≡ 11 = behind ∙ rw (ne-eqb w 0 f) in
         let a : refused 11 ≡ cueRule s mics lsps = outcome-no 11 (cueRefusal s mics lsps) (sym r) (cue s) (λ (y : _≡_ {A = ℕ} 11 0). omega arith) in
         let b : w ≡ cueWord s mics lsps = rw (r, passes .short) ew in
-        rw (← a, ← b)
+        e ∙ rw (← a, ← b)
 
     module _ (y : w ≡ 0) (l : List StrPtr) (el : l ≡ firstWords 8 s 0) where
       number-is : (i : ℕ) → i < 8 → (d : StrPtr) → readRule s (getD l i d) 10 ≡ read (getD (words s) i [])

@@ -15,7 +15,7 @@ use Rattle.strlib.specs.Quoted.{bytes}
 use Rattle.strlib.specs.Refusal.{first}
 use Rattle.words.specs.Words.{words, same}
 use Rattle.desk.proofs.CueWords.{word-there}
-use Rattle.desk.specs.Cue.{word, placeChecks, wrongWord, formed, isSize, micWord, lspWord, gainWord, numberChecks, cueRefusal, cueWord}
+use Rattle.desk.specs.Cue.{word, formedChecks, wrongWord, formed, isSize, micWord, lspWord, gainWord, numberChecks, cueRefusal, cueWord}
 use Rattle.desk.specs.CueWord.{formedBefore, FormedSame, Worded}
 
 -- ---- the form
@@ -27,7 +27,7 @@ module _ (line : List ℕ) where
   now-before : formed line ≡ true → formedBefore line ≡ true
   unfolding formed wrongWord formedBefore
   now-before e =
-      let p = passed (placeChecks line) refl (eqb-true (wrongWord line) 0 e) in
+      let p = passed (formedChecks line) refl (eqb-true (wrongWord line) 0 e) in
       let g = ltb-true 6 (length (words line)) (sym (word-there line 6 (omega arith)) ∙ p .1 .1 .1 .1 .1 .1 .0) in
       let n : length (words line) ≡ 7 = omega (arith, g, leb-true (length (words line)) 7 (p .1 .1 .1 .1 .1 .1 .1 .0)) in
       rw (eq-eqb (length (words line)) 7 n, p .0, p .1 .1 .0, p .1 .1 .1 .0, p .1 .1 .1 .1 .1 .0)
@@ -68,7 +68,8 @@ pub worded : Worded
 unfolding cueWord wrongWord
 worded line mics lsps =
     record {
-      short = λ e h. rw (word-is line mics lsps e h) (omega (arith, some line mics lsps e h), first-under 8 (placeChecks line) refl);
+      short = λ e h. word-is line mics lsps e h;
+      range = λ e h. rw (word-is line mics lsps e h) (omega (arith, some line mics lsps e h), first-under 8 (formedChecks line) refl);
       long = λ h. rw (lt-leb (length line) 80 h) (bool-case (eqb (cueRefusal line mics lsps) 11) (λ t. rw t) (λ f. rw f));
       other = λ f. rw (ne-eqb (cueRefusal line mics lsps) 11 f);
     }

@@ -20,7 +20,7 @@ use Rattle.strlib.specs.declared.StrPtr.{StrPtr}
 use Rattle.words.proofs.Wording.{first-words-none, first-words-more, word-no, word-some, words-good}
 use Rattle.words.specs.Words.{words, same, pointerOf, nextWord, firstWords}
 use Rattle.words.specs.declared.Piece.{Piece}
-use Rattle.desk.specs.Cue.{placeChecks, wrongWord}
+use Rattle.desk.specs.Cue.{formedChecks, wrongWord}
 
 -- ---- the loop
 
@@ -96,7 +96,7 @@ module _ (s : List ℕ) where
         let tb : b ≡ same (getD (words s) 2 []) (bytes "TO") = eb ∙ rw (text-is 2 (omega arith) d₃) in
         let tc : c ≡ same (getD (words s) 3 []) (bytes "LSP") = ec ∙ rw (text-is 3 (omega arith) d₄) in
         let td : d ≡ same (getD (words s) 5 []) (bytes "GAIN") = ed ∙ rw (text-is 5 (omega arith) d₆) in
-        first-is (placeChecks s) refl r
+        first-is (formedChecks s) refl r
         (er ∙ rw (e₇, e₆, e₅, e₄, e₃, e₂, e₁, none-is d₈, there-is 6 (omega arith) d₇, there-is 4 (omega arith) d₅, there-is 1 (omega arith) d₂, ta, tb, tc, td))
 
 pub word-same : (s : List ℕ) (p : StrPtr) (t y : List ℕ) (b : Bool) → t ≡ textOf s p → b ≡ same t y → b ≡ same (textOf s p) y

@@ -16,13 +16,13 @@ use Rattle.moving.specs.Moving.{pasted}
 use Rattle.records.proofs.Bytes.{label-length, fitted-is}
 use Rattle.records.proofs.Checking.{Writable, writable}
 use Rattle.records.proofs.Limits.{in-range, earlier-none, earlier-found, earlier-zero}
-use Rattle.records.proofs.Placing.{good-place}
+use Rattle.records.proofs.Placing.{good-offset}
 use Rattle.records.proofs.Telling.{ruled-at-no, ruled-at-yes}
-use Rattle.records.specs.Record.{recordSize, earlier, listRefusal, faultPlace, newRefusal, labelBytes, fittedBytes}
+use Rattle.records.specs.Record.{recordSize, earlier, listRefusal, faultOffset, newRefusal, labelBytes, fittedBytes}
 use Rattle.records.specs.Told.{refusedAt, tells}
 use Rattle.records.specs.declared.Fault.{Fault}
 use Rattle.desk.proofs.LabelReading.{answered-good, answered-refused}
-use Rattle.desk.specs.Label.{readLabelsRule, labelCounted, addRefusal, addPlace, addRule}
+use Rattle.desk.specs.Label.{readLabelsRule, labelCounted, addRefusal, addOffset, addRule}
 use Rattle.desk.specs.LabelInner.{addFault}
 use Rattle.desk.specs.declared.label.read.LabelCount.{LabelCount}
 use Rattle.desk.specs.declared.label.read.LabelCount.the-variants.{Records, Refused as Uncounted}
@@ -33,8 +33,8 @@ pub front-length : (b : List ℕ) (n : ℕ) → n ≤ length b → n ≡ length 
 front-length b n h = rw length-take (omega arith)
 
 module _ (b : List ℕ) (n kind number : ℕ) (name : List ℕ) where
-  pub add-long : length b < n → _≡_ {A = Fault} (record { number = 4; offset = n }) (addFault b n kind number name)
-  unfolding addFault addRefusal addPlace
+  pub add-long : length b < n → _≡_ {A = Fault} (record { refusal = 4; offset = n }) (addFault b n kind number name)
+  unfolding addFault addRefusal addOffset
   add-long h = rw (lt-leb n (length b) h)
 
   module _ (h : n ≤ length b) (a : LabelCount) (e : labelCounted a ≡ readLabelsRule (take n b)) where
@@ -42,17 +42,17 @@ module _ (b : List ℕ) (n kind number : ℕ) (name : List ℕ) where
     new = newRefusal (take n b) (length b - n) kind number name
 
     pub add-list : (f : Fault) → a ≡ Uncounted f → f ≡ addFault b n kind number name
-    unfolding addFault addRefusal addPlace
+    unfolding addFault addRefusal addOffset
     add-list f q =
         let g = answered-refused (take n b) a e f q in
         rw (le-leb n (length b) h, earlier-found (listRefusal (take n b)) new (rw (g .0) at (g .1 .1)), ← (g .0), ← (g .1 .0))
 
     pub add-new : (m k : ℕ) → a ≡ Records m → k ≡ newRefusal (take n b) (length b - n) kind number name
-        → _≡_ {A = Fault} (record { number = k; offset = length (take n b) }) (addFault b n kind number name)
-    unfolding addFault addRefusal addPlace
+        → _≡_ {A = Fault} (record { refusal = k; offset = length (take n b) }) (addFault b n kind number name)
+    unfolding addFault addRefusal addOffset
     add-new m k q f =
         let g = answered-good (take n b) a e m q in
-        rw (le-leb n (length b) h, earlier-zero (listRefusal (take n b)) new g, good-place (take n b) g, f)
+        rw (le-leb n (length b) h, earlier-zero (listRefusal (take n b)) new g, good-offset (take n b) g, f)
 
 pub ruleset refusal-laws = (needs, front-length, add-long, add-list, add-new)
 
@@ -79,22 +79,22 @@ pub add-size : (b b′ : List ℕ) (n kind number : ℕ) (name : List ℕ) → b
 add-size b b′ n kind number name e = rw e (pasted-length b n (fittedBytes kind number name))
 
 module _ (b : List ℕ) (n kind number : ℕ) (name : List ℕ) (f : Fault) (e : f ≡ addFault b n kind number name) where
-  number-is : f .number ≡ addRefusal b n kind number name
+  refusal-is : f .refusal ≡ addRefusal b n kind number name
   unfolding addFault
-  number-is = ap (λ (f : Fault). f .number) e
+  refusal-is = ap (λ (f : Fault). f .refusal) e
 
-  offset-is : f .offset ≡ addPlace b n
+  offset-is : f .offset ≡ addOffset b n
   unfolding addFault
   offset-is = ap (λ (f : Fault). f .offset) e
 
-  pub add-refused : (f .number ≡ 0 → ⊥) → (refusedAt (f .number) (f .offset), b) ≡ addRule b n kind number name
+  pub add-refused : (f .refusal ≡ 0 → ⊥) → (refusedAt (f .refusal) (f .offset), b) ≡ addRule b n kind number name
   unfolding addRule
   add-refused h =
-      ruled-at-no (f .number) (addRefusal b n kind number name) number-is (f .offset) (addPlace b n) (n + recordSize kind) (put b n (labelBytes kind number name)) b offset-is h
+      ruled-at-no (f .refusal) (addRefusal b n kind number name) refusal-is (f .offset) (addOffset b n) (n + recordSize kind) (put b n (labelBytes kind number name)) b offset-is h
 
-  module _ (z : f .number ≡ 0) (size : ℕ) (es : size ≡ recordSize kind) where
+  module _ (z : f .refusal ≡ 0) (size : ℕ) (es : size ≡ recordSize kind) where
     a : Adding b n kind number name
-    a = adding b n kind number name (sym number-is ∙ z)
+    a = adding b n kind number name (sym refusal-is ∙ z)
 
     room : n + recordSize kind ≤ length b
     room = omega (arith, a .within, a .new .roomy)
@@ -110,6 +110,6 @@ module _ (b : List ℕ) (n kind number : ℕ) (name : List ℕ) (f : Fault) (e :
         fitted-is kind number name (a .new .short) (omega (arith, s .0)) (omega (arith, s .1)) in
         let r : b′ ≡ put b n (labelBytes kind number name) =
         q ∙ ap (pasted b n) g ∙ pasted-in b n (labelBytes kind number name) (omega (arith, room, label-length kind number name (a .new .short))) in
-        ruled-at-yes (f .number) (addRefusal b n kind number name) number-is (addPlace b n) (n + size) (n + recordSize kind) b′ (put b n (labelBytes kind number name)) b z (rw es) r
+        ruled-at-yes (f .refusal) (addRefusal b n kind number name) refusal-is (addOffset b n) (n + size) (n + recordSize kind) b′ (put b n (labelBytes kind number name)) b z (rw es) r
 
 pub ruleset add-laws = (needs, add-size, add-refused, add-fits, add-done)

@@ -19,10 +19,10 @@ use Rattle.records.proofs.Fronts.{name-front, name-length}
 use Rattle.records.proofs.Goodness.{good-passes, record-length, record-place, place-front, record-front}
 use Rattle.records.proofs.Likeness.{record-of-le}
 use Rattle.records.proofs.Limits.{earlier-none, earlier-found, earlier-zero}
-use Rattle.records.proofs.Placing.{good-place}
+use Rattle.records.proofs.Placing.{good-offset}
 use Rattle.records.proofs.Sizes.{size-width, place-begins}
 use Rattle.records.proofs.Telling.{told-no, told-yes, told-gave}
-use Rattle.records.specs.Record.{headSize, recordSize, kindOf, nameIn, placeOf, recordAt, records, recordOf, earlier, listRefusal, faultPlace, keyRefusal}
+use Rattle.records.specs.Record.{headSize, recordSize, kindOf, nameIn, placeOf, recordAt, records, recordOf, earlier, listRefusal, faultOffset, keyRefusal}
 use Rattle.records.specs.Told.{Told, refusedAt, tells, told}
 use Rattle.records.specs.declared.Fault.{Fault}
 use Rattle.desk.proofs.LabelReading.{answered-good, answered-refused}
@@ -67,13 +67,13 @@ pub found-counted : (l : List ℕ) (kind number k : ℕ) → k ≡ recordOf l ki
 found-counted l kind number k e = record { most = rw e (record-of-le l kind number (records l)) }
 
 module _ (l : List ℕ) (kind number : ℕ) (a : LabelCount) (c : labelCounted a ≡ readLabelsRule l) where
-  pub find-list : (f : Fault) → a ≡ Uncounted f → refusedAt (f .number) (f .offset) ≡ findLabelRule l kind number
+  pub find-list : (f : Fault) → a ≡ Uncounted f → refusedAt (f .refusal) (f .offset) ≡ findLabelRule l kind number
   unfolding findLabelRule
   find-list f q =
       let n = answered-refused l a c f q in
-      let e : f .number ≡ earlier (listRefusal l) (keyRefusal kind number) =
+      let e : f .refusal ≡ earlier (listRefusal l) (keyRefusal kind number) =
       n .0 ∙ sym (earlier-found (listRefusal l) (keyRefusal kind number) (rw (n .0) at (n .1 .1))) in
-      told-no (f .number) _ e (f .offset) (faultPlace l) (nameOf l (recordOf l kind number (records l))) (n .1 .0) (n .1 .1)
+      told-no (f .refusal) _ e (f .offset) (faultOffset l) (nameOf l (recordOf l kind number (records l))) (n .1 .0) (n .1 .1)
 
   module _ (n j : ℕ) (q : a ≡ Records n) (e : j ≡ keyRefusal kind number) where
     later : j ≡ earlier (listRefusal l) (keyRefusal kind number)
@@ -81,11 +81,11 @@ module _ (l : List ℕ) (kind number : ℕ) (a : LabelCount) (c : labelCounted a
 
     pub find-key : (j ≡ 0 → ⊥) → refusedAt j (length l) ≡ findLabelRule l kind number
     unfolding findLabelRule
-    find-key h = told-no j _ later (length l) (faultPlace l) (nameOf l (recordOf l kind number (records l))) (sym (good-place l (answered-good l a c n q))) h
+    find-key h = told-no j _ later (length l) (faultOffset l) (nameOf l (recordOf l kind number (records l))) (sym (good-offset l (answered-good l a c n q))) h
 
     pub find-name : (k : ℕ) (r : Told (Sought (ℕ × ℕ))) → j ≡ 0 → k ≡ recordOf l kind number (records l) → r ≡ tells (nameOf l k) → r ≡ findLabelRule l kind number
     unfolding findLabelRule
-    find-name k r z f x = x ∙ told-yes j _ later (faultPlace l) (nameOf l k) _ z (ap (nameOf l) f)
+    find-name k r z f x = x ∙ told-yes j _ later (faultOffset l) (nameOf l k) _ z (ap (nameOf l) f)
 
 pub ruleset find-laws = (needs, found-counted, find-list, find-key, find-name)
 
@@ -94,7 +94,7 @@ pub ruleset find-laws = (needs, found-counted, find-list, find-key, find-name)
 pub find-good : (l : List ℕ) (kind number : ℕ) → listRefusal l ≡ 0
     → findLabelRule l kind number ≡ told (keyRefusal kind number) (length l) (nameOf l (recordOf l kind number (records l)))
 unfolding findLabelRule
-find-good l kind number g = rw (earlier-zero (listRefusal l) (keyRefusal kind number) g, good-place l g)
+find-good l kind number g = rw (earlier-zero (listRefusal l) (keyRefusal kind number) g, good-offset l g)
 
 module _ (l : List ℕ) (g : listRefusal l ≡ 0) where
   -- a name lies in its record, and so in the list
@@ -124,7 +124,7 @@ pub place-within : (l : List ℕ) (kind number : ℕ) (q : LabelPlace) → label
     → place + n ≤ length l
 unfolding findLabelRule
 place-within l kind number q e place n f =
-    let g = told-gave (earlier (listRefusal l) (keyRefusal kind number)) (faultPlace l) _ (at (place, n)) (sym e ∙ ap labelPlaced f) in
+    let g = told-gave (earlier (listRefusal l) (keyRefusal kind number)) (faultOffset l) _ (at (place, n)) (sym e ∙ ap labelPlaced f) in
     let z = earlier-none (listRefusal l) (keyRefusal kind number) (g .0) in
     found-within l (z .0) (recordOf l kind number (records l)) place n (record-of-le l kind number (records l)) (g .1)
 

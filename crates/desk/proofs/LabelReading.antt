@@ -14,10 +14,10 @@ use borrow.Author.Tests.{not-true, not-false}
 use Rattle.strlib.proofs.Refusing.{bool-case}
 use Rattle.records.proofs.Fronts.{body-passes, behind-body, behind-fresh}
 use Rattle.records.proofs.Limits.{in-range}
-use Rattle.records.proofs.Reading.{Reached, reached-start, reached-next, reached-refusal, reached-place, reached-count, reached-good, record-yes, record-no, fresh-next, fresh-none}
+use Rattle.records.proofs.Reading.{Reached, reached-start, reached-next, reached-refusal, reached-offset, reached-count, reached-good, record-yes, record-no, fresh-next, fresh-none}
 use Rattle.records.proofs.Sizes.{size-least}
 use Rattle.records.proofs.Telling.{told-no, told-yes, told-gave, told-is}
-use Rattle.records.specs.Record.{recordSize, isNumberOf, kindOf, numberIn, records, isRecord, isFresh, bodyRefusal, behindRefusal, listRefusal, faultPlace}
+use Rattle.records.specs.Record.{recordSize, isNumberOf, kindOf, numberIn, records, isRecord, isFresh, bodyRefusal, behindRefusal, listRefusal, faultOffset}
 use Rattle.records.specs.Told.{refusedAt, tells}
 use Rattle.records.specs.declared.Fault.{Fault}
 use Rattle.desk.specs.Label.{labelCounted, readLabelsRule}
@@ -67,7 +67,7 @@ module _ (l : List ℕ) (n place : ℕ) (r : Reached l n place) (x : List ℕ) (
   unfolding readLabelsRule
   stop h m e f =
       let b : m ≡ behindRefusal (take place l) (drop place l) = rw (← ex) e in
-      told-no m (listRefusal l) (reached-refusal l n place r h m b f) place (faultPlace l) (records l) (reached-place l n place r h m b f) f
+      told-no m (listRefusal l) (reached-refusal l n place r h m b f) place (faultOffset l) (records l) (reached-offset l n place r h m b f) f
 
   pub body-faulty : place < length l → (k ≡ 0 → ⊥) → refusedAt k place ≡ readLabelsRule l
   body-faulty h f = stop h k (behind-body (take place l) x k ek f) f
@@ -138,7 +138,7 @@ module _ (l : List ℕ) (n place : ℕ) (r : Reached l n place) (x : List ℕ) (
 
 pub read-good : (l : List ℕ) (n place : ℕ) → Reached l n place → length l ≤ place → tells n ≡ readLabelsRule l
 unfolding readLabelsRule
-read-good l n place r h = told-yes 0 (listRefusal l) (reached-good l n place r h) (faultPlace l) n (records l) refl (reached-count l n place r h)
+read-good l n place r h = told-yes 0 (listRefusal l) (reached-good l n place r h) (faultOffset l) n (records l) refl (reached-count l n place r h)
 
 pub ruleset read-laws = (
   needs,
@@ -161,8 +161,8 @@ pub ruleset read-laws = (
 module _ (l : List ℕ) (a : LabelCount) (e : labelCounted a ≡ readLabelsRule l) where
   pub answered-good : (n : ℕ) → a ≡ Records n → listRefusal l ≡ 0
   unfolding readLabelsRule
-  answered-good n q = told-gave (listRefusal l) (faultPlace l) (records l) n (sym e ∙ ap labelCounted q) .0
+  answered-good n q = told-gave (listRefusal l) (faultOffset l) (records l) n (sym e ∙ ap labelCounted q) .0
 
-  pub answered-refused : (f : Fault) → a ≡ Uncounted f → (f .number ≡ listRefusal l) × ((f .offset ≡ faultPlace l) × (f .number ≡ 0 → ⊥))
+  pub answered-refused : (f : Fault) → a ≡ Uncounted f → (f .refusal ≡ listRefusal l) × ((f .offset ≡ faultOffset l) × (f .refusal ≡ 0 → ⊥))
   unfolding readLabelsRule
-  answered-refused f q = told-is (listRefusal l) (faultPlace l) (records l) (f .number) (f .offset) (sym e ∙ ap labelCounted q)
+  answered-refused f q = told-is (listRefusal l) (faultOffset l) (records l) (f .refusal) (f .offset) (sym e ∙ ap labelCounted q)

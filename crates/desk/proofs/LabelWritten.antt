@@ -13,22 +13,17 @@ use Rattle.records.proofs.Bytes.{label-length}
 use Rattle.records.proofs.Checking.{Writable, key-good}
 use Rattle.records.proofs.Likeness.{record-of-le}
 use Rattle.records.proofs.Limits.{padded-trimmed}
-use Rattle.records.proofs.Telling.{told-no, told-yes, ruled-at-gave}
-use Rattle.records.specs.Record.{headSize, widthOf, recordSize, records, recordOf, listRefusal, faultPlace, keyRefusal, labelBytes}
-use Rattle.records.specs.Told.{refusedAt, tells, told}
+use Rattle.records.proofs.Telling.{told-yes, ruled-at-gave}
+use Rattle.records.specs.Record.{headSize, widthOf, recordSize, records, recordOf, listRefusal, faultOffset, keyRefusal, labelBytes}
+use Rattle.records.specs.Told.{tells, told}
 use Rattle.desk.proofs.LabelAdding.{Adding, adding}
 use Rattle.desk.proofs.LabelFinding.{find-good, name-stays}
-use Rattle.desk.specs.Label.{readLabelsRule, nameOf, findLabelRule, addRefusal, addPlace, addRule}
+use Rattle.desk.specs.Label.{readLabelsRule, nameOf, findLabelRule, addRefusal, addOffset, addRule}
 use Rattle.desk.specs.LabelWritten.{Written, WrittenReads}
 
 pub read-good : (l : List ℕ) → listRefusal l ≡ 0 → readLabelsRule l ≡ tells (records l)
 unfolding readLabelsRule
-read-good l g = sym (told-yes 0 (listRefusal l) (sym g) (faultPlace l) (records l) (records l) refl refl)
-
--- a kind and number that may not be asked for
-pub find-refused : (l : List ℕ) → listRefusal l ≡ 0 → (k m : ℕ) → (keyRefusal k m ≡ 0 → ⊥) → findLabelRule l k m ≡ refusedAt (keyRefusal k m) (length l)
-find-refused l g k m h =
-    find-good l k m g ∙ sym (told-no (keyRefusal k m) (keyRefusal k m) refl (length l) (length l) (nameOf l (recordOf l k m (records l))) refl h)
+read-good l g = sym (told-yes 0 (listRefusal l) (sym g) (faultOffset l) (records l) (records l) refl refl)
 
 module _ (l : List ℕ) (room kind number : ℕ) (name : List ℕ) (w : Writable l room kind number name) (g : listRefusal l ≡ 0) where
   abbrev rec : List ℕ
@@ -59,13 +54,10 @@ module _ (b : List ℕ) (n kind number : ℕ) (name : List ℕ) (a : Adding b n 
   front-length : length (take n b) ≡ n
   front-length = rw length-take (omega (arith, a .within))
 
-  list-length : length (take n b ++ labelBytes kind number name) ≡ n + recordSize kind
-  list-length = rw length-append (omega (arith, front-length, label-length kind number name (a .new .short)))
-
   list-is : take (n + recordSize kind) (put b n (labelBytes kind number name)) ≡ take n b ++ labelBytes kind number name
   list-is =
       put-head b n (labelBytes kind number name) (n + recordSize kind)
-      (omega (arith, list-length))
+      (rw length-append (omega (arith, front-length, label-length kind number name (a .new .short))))
 
   adding-reads : Written b n kind number name (n + recordSize kind) (put b n (labelBytes kind number name))
   adding-reads =
@@ -77,15 +69,11 @@ module _ (b : List ℕ) (n kind number : ℕ) (name : List ℕ) (a : Adding b n 
         found = rw list-is (rw front-length at (find-is l r kind number name (a .new) (a .good)));
         text = rw list-is (rw front-length at (added-text l r kind number name (a .new) (a .good)));
         others = λ k m z h. rw list-is (other-is l r kind number name (a .new) (a .good) k m z h);
-        refusals = λ k m h. (
-          rw front-length at (find-refused l (a .good) k m h),
-          rw list-is (rw list-length at (find-refused (l ++ labelBytes kind number name) (good l r kind number name (a .new) (a .good)) k m h)),
-        );
       }
 
 pub written-reads : WrittenReads
 unfolding addRule
 written-reads b n kind number name n′ b′ q =
-    let g = ruled-at-gave (addRefusal b n kind number name) (addPlace b n) (n + recordSize kind) n′ (put b n (labelBytes kind number name)) b (ap (λ z. z .0) q) in
+    let g = ruled-at-gave (addRefusal b n kind number name) (addOffset b n) (n + recordSize kind) n′ (put b n (labelBytes kind number name)) b (ap (λ z. z .0) q) in
     let s : b′ ≡ put b n (labelBytes kind number name) = sym (ap (λ z. z .1) q) ∙ g .1 .1 in
     rw (← (g .1 .0), s) (adding-reads b n kind number name (adding b n kind number name (g .0)))

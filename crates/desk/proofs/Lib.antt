@@ -6,4 +6,5 @@ pub mod CueWording
 pub mod LabelReading
 pub mod LabelFinding
 pub mod LabelAdding
+pub mod LabelFault
 pub mod LabelWritten

@@ -21,7 +21,7 @@ use Rattle.desk.specs.declared.cue.CueAnswer.the-variants.{Cue as Given,
 -- the paper's value for each case of the answer
 abbrev pub cueAnswered : CueAnswer → Outcome Cue
 cueAnswered (Given c) = gives c
-cueAnswered (Refused f) = refused (f .number)
+cueAnswered (Refused f) = refused (f .refusal)
 
 -- the word number that comes with it
 abbrev pub wordOf : CueAnswer → ℕ
@@ -34,8 +34,8 @@ word line k = getD (words line) (k - 1) []
 
 -- the words by their numbers, each with what has to hold: a fixed word is itself, a number's word is there, and there is
 -- no eighth
-abbrev pub placeChecks : List ℕ → List (ℕ × Bool)
-placeChecks line =
+abbrev pub formedChecks : List ℕ → List (ℕ × Bool)
+formedChecks line =
     (1, same (word line 1) (bytes "MIC"))
     ∷ (2, leb 1 (length (word line 2)))
     ∷ (3, same (word line 3) (bytes "TO"))
@@ -46,9 +46,9 @@ placeChecks line =
     ∷ (8, leb (length (words line)) 7)
     ∷ []
 
--- the first wrong or missing word, 8 for one too many, 0 for none
+-- the first wrong or missing fixed word or missing number, else 8 if there is an eighth word; 0 for none
 unfoldable pub wrongWord : List ℕ → ℕ
-wrongWord line = first (placeChecks line)
+wrongWord line = first (formedChecks line)
 
 -- seven words, the fixed ones in their places
 unfoldable pub formed : List ℕ → Bool
@@ -109,8 +109,8 @@ unfoldable pub cueRule : List ℕ → ℕ → ℕ → Outcome Cue
 cueRule line mics lsps =
     outcome (cueRefusal line mics lsps) (cueOf (numberOf 10 (micWord line)) (numberOf 10 (lspWord line)) (numberOf 10 (gainWord line)))
 
--- the word that comes with it: with 11, 0 for a line over 80 characters, else the first wrong or missing one; with every
--- other number and with a cue, 0
+-- the word that comes with it: with 11, 0 for a line over 80 characters, else what is wrong in its form; with every other
+-- number and with a cue, 0
 unfoldable pub cueWord : List ℕ → ℕ → ℕ → ℕ
 cueWord line mics lsps = cond (eqb (cueRefusal line mics lsps) 11) (cond (leb (length line) 80) (wrongWord line) 0) 0
 

@@ -21,7 +21,7 @@ answerTo line = cueWordRule line 64 128
 abbrev pub cue : ℕ → ℕ → ℤ → Outcome Cue × ℕ
 cue n m g = (gives (record { microphone = n; loudspeaker = m; gain = g }), 0)
 
--- a good line of 80 characters
+-- 80 characters with the right words
 abbrev pub full : List ℕ
 full = bytes "   MIC       0000000000007  TO     LSP    00000000000000031    GAIN         -120"
 
@@ -32,9 +32,9 @@ pub record Examples : Type 0 where
   pub short : answerTo (bytes "MIC 7 TO LSP") ≡ (refused 11, 5)
   -- by place: word 2 is there, and word 3 should be TO
   pub by-place : answerTo (bytes "MIC TO LSP 3 GAIN 0") ≡ (refused 11, 3)
-  -- the first wrong word before one too many
+  -- the first wrong word before an eighth
   pub not-eight : answerTo (bytes "MIC 7 TO LSP 31 gain 0 0") ≡ (refused 11, 6)
-  -- 81 characters, whatever the words are
+  -- 81 characters: no word, though the words are right
   pub too-long : answerTo (full ++ (32 ∷ [])) ≡ (refused 11, 0)
 
 pub examples : Examples

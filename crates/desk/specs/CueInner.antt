@@ -17,7 +17,10 @@ unfoldable pub indexOf : ℕ → ℤ → ℕ
 indexOf most (pos n) = cond (leb n most) n 0
 indexOf most (negsuc n) = 0
 
--- an answer that comes without a word
+-- a refusal with its word, and an answer that comes without one
+abbrev pub refusedWord : ℕ → ℕ → Outcome Cue × ℕ
+refusedWord n word = (refused n, word)
+
 abbrev pub wordless : Outcome Cue → Outcome Cue × ℕ
 wordless o = (o, 0)
 

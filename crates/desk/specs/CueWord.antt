@@ -1,4 +1,4 @@
--- What the word number of a cue line says, and that the form is tested as before: 02, W2. Assumes nothing.
+-- When a cue line's refusal comes with a word, and that the form is tested as before: 02, W2. Assumes nothing.
 use Prim.Native.Nat.{ℕ, _≤_, _<_}
 use mathlib.Core.Path.{_≡_}
 use mathlib.Core.Bool.{Bool, _&&_}
@@ -7,7 +7,7 @@ use lib.Dec.{eqb}
 use lib.ListN.{length}
 use Rattle.strlib.specs.Quoted.{bytes}
 use Rattle.words.specs.Words.{words, same}
-use Rattle.desk.specs.Cue.{word, formed, cueRefusal, cueWord}
+use Rattle.desk.specs.Cue.{word, wrongWord, formed, cueRefusal, cueWord}
 
 -- the form as 01's rule had it before 02
 unfoldable pub formedBefore : List ℕ → Bool
@@ -18,9 +18,11 @@ formedBefore line =
 abbrev pub FormedSame : Type 0
 FormedSame = (line : List ℕ) → formed line ≡ formedBefore line
 
--- 11 comes with a word, 1 to 8, or the line is over 80 characters; nothing else comes with a word
+-- 11 comes with the word at which the form is wrong, 1 to 8, or the line is over 80 characters; nothing else comes with
+-- a word
 pub record WordedIn (line : List ℕ) (mics lsps : ℕ) : Type 0 where
-  pub short : cueRefusal line mics lsps ≡ 11 → length line ≤ 80 → (1 ≤ cueWord line mics lsps) × (cueWord line mics lsps ≤ 8)
+  pub short : cueRefusal line mics lsps ≡ 11 → length line ≤ 80 → cueWord line mics lsps ≡ wrongWord line
+  pub range : cueRefusal line mics lsps ≡ 11 → length line ≤ 80 → (1 ≤ cueWord line mics lsps) × (cueWord line mics lsps ≤ 8)
   pub long : 80 < length line → cueWord line mics lsps ≡ 0
   pub other : (cueRefusal line mics lsps ≡ 11 → ⊥) → cueWord line mics lsps ≡ 0
 

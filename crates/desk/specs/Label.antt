@@ -10,7 +10,7 @@ use Rattle.strlib.specs.Refusal.{Sought, nowhere, at}
 use Rattle.strlib.specs.Store.{put}
 use Rattle.strlib.specs.declared.StrPtr.{StrPtr}
 use Rattle.cutting.specs.Cutting.{trimmedLength}
-use Rattle.records.specs.Record.{headSize, recordSize, nameIn, placeOf, recordAt, records, recordOf, earlier, listRefusal, faultPlace}
+use Rattle.records.specs.Record.{headSize, recordSize, nameIn, placeOf, recordAt, records, recordOf, earlier, listRefusal, faultOffset}
 use Rattle.records.specs.Record.{keyRefusal, newRefusal, labelBytes}
 use Rattle.records.specs.Told.{Told, refusedAt, tells, told, ruledAt}
 use Rattle.desk.specs.declared.label.read.LabelCount.{LabelCount}
@@ -23,12 +23,12 @@ use Rattle.desk.specs.declared.label.add.LabelAdded.the-variants.{Added,
 -- ---- the reader
 
 unfoldable pub readLabelsRule : List ℕ → Told ℕ
-readLabelsRule l = told (listRefusal l) (faultPlace l) (records l)
+readLabelsRule l = told (listRefusal l) (faultOffset l) (records l)
 
 -- the paper's value for each case of the answer
 abbrev pub labelCounted : LabelCount → Told ℕ
 labelCounted (Records n) = tells n
-labelCounted (Uncounted f) = refusedAt (f .number) (f .offset)
+labelCounted (Uncounted f) = refusedAt (f .refusal) (f .offset)
 
 -- ---- the lookup
 
@@ -40,12 +40,12 @@ nameOf l (suc k) = at (placeOf l k + headSize, trimmedLength (nameIn (recordAt l
 -- a kind or number that is asked for and is none is no record's fault: it comes with the list's length
 unfoldable pub findLabelRule : List ℕ → ℕ → ℕ → Told (Sought (ℕ × ℕ))
 findLabelRule l kind number =
-    told (earlier (listRefusal l) (keyRefusal kind number)) (faultPlace l) (nameOf l (recordOf l kind number (records l)))
+    told (earlier (listRefusal l) (keyRefusal kind number)) (faultOffset l) (nameOf l (recordOf l kind number (records l)))
 
 abbrev pub labelPlaced : LabelPlace → Told (Sought (ℕ × ℕ))
 labelPlaced (Found place n) = tells (at (place, n))
 labelPlaced Missing = tells nowhere
-labelPlaced (Unplaced f) = refusedAt (f .number) (f .offset)
+labelPlaced (Unplaced f) = refusedAt (f .refusal) (f .offset)
 
 -- the part that the read-only form cuts, as a string that fills its room: the empty part at the list's front on a
 -- refusal or no record
@@ -60,15 +60,15 @@ namePart (tells (at (place, n))) = pointer place n n
 unfoldable pub addRefusal : List ℕ → ℕ → ℕ → ℕ → List ℕ → ℕ
 addRefusal b n kind number name = cond (leb n (length b)) (earlier (listRefusal (take n b)) (newRefusal (take n b) (length b - n) kind number name)) 4
 
--- its offset: the list's length is n, also where the buffer has not so many bytes
-unfoldable pub addPlace : List ℕ → ℕ → ℕ
-addPlace b n = cond (leb n (length b)) (faultPlace (take n b)) n
+-- its offset: the faulty record's, else the list's length, which is n, also where the buffer has not so many bytes
+unfoldable pub addOffset : List ℕ → ℕ → ℕ
+addOffset b n = cond (leb n (length b)) (faultOffset (take n b)) n
 
 -- the new length of the list, and the buffer, in which all other bytes stay
 unfoldable pub addRule : List ℕ → ℕ → ℕ → ℕ → List ℕ → Told ℕ × List ℕ
 addRule b n kind number name =
-    ruledAt (addRefusal b n kind number name) (addPlace b n) (n + recordSize kind) (put b n (labelBytes kind number name)) b
+    ruledAt (addRefusal b n kind number name) (addOffset b n) (n + recordSize kind) (put b n (labelBytes kind number name)) b
 
 abbrev pub labelAdded : LabelAdded → Told ℕ
 labelAdded (Added n) = tells n
-labelAdded (Unadded f) = refusedAt (f .number) (f .offset)
+labelAdded (Unadded f) = refusedAt (f .refusal) (f .offset)

@@ -3,7 +3,7 @@ use Prim.Native.Nat.{ℕ, _+_, _*_, _≤_}
 use mathlib.Core.List.{List}
 use Rattle.records.specs.Record.{records}
 use Rattle.records.specs.declared.Fault.{Fault}
-use Rattle.desk.specs.Label.{addRefusal, addPlace}
+use Rattle.desk.specs.Label.{addRefusal, addOffset}
 
 -- where a kind and number are marked as met: a kind has marks for the numbers 0 to 128
 unfoldable pub markOf : ℕ → ℕ → ℕ
@@ -18,6 +18,6 @@ pub record Markable (kind number : ℕ) : Type 0 where
 pub record Counted (l : List ℕ) (k : ℕ) : Type 0 where
   pub most : k ≤ records l
 
--- what the writer finds before it writes, with the number 0 for nothing
+-- what the writer finds before it writes, with 0 for nothing
 unfoldable pub addFault : List ℕ → ℕ → ℕ → ℕ → List ℕ → Fault
-addFault b n kind number name = record { number = addRefusal b n kind number name; offset = addPlace b n }
+addFault b n kind number name = record { refusal = addRefusal b n kind number name; offset = addOffset b n }

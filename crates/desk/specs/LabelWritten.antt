@@ -7,7 +7,7 @@ use lib.ListN.{take, drop}
 use Rattle.strlib.specs.Refusal.{at}
 use Rattle.cutting.specs.Cutting.{trimmedLength}
 use Rattle.records.specs.Record.{headSize, records, keyRefusal}
-use Rattle.records.specs.Told.{refusedAt, tells}
+use Rattle.records.specs.Told.{tells}
 use Rattle.desk.specs.Label.{readLabelsRule, findLabelRule, addRule}
 
 -- a record was added behind the list of n bytes in the buffer b, and the list is now the first n′ bytes of b′
@@ -18,11 +18,9 @@ pub record Written (b : List ℕ) (n kind number : ℕ) (name : List ℕ) (n′ 
   -- the lookup gives the written name, trimmed: its place and length, and the bytes there
   pub found : findLabelRule (take n′ b′) kind number ≡ tells (at (n + headSize, trimmedLength name))
   pub text : take (trimmedLength name) (drop (n + headSize) (take n′ b′)) ≡ take (trimmedLength name) name
-  -- every other kind and number that may be asked for gives what it gave
+  -- and every other kind and number that may be asked for gives what it gave (one that may not comes with the list's
+  -- length, which grew: `Faults`)
   pub others : (k m : ℕ) → keyRefusal k m ≡ 0 → ((k ≡ kind) × (m ≡ number) → ⊥) → findLabelRule (take n′ b′) k m ≡ findLabelRule (take n b) k m
-  -- and one that may not gives the number that it gave, each time with the list's length
-  pub refusals : (k m : ℕ) → (keyRefusal k m ≡ 0 → ⊥)
-      → (findLabelRule (take n b) k m ≡ refusedAt (keyRefusal k m) n) × (findLabelRule (take n′ b′) k m ≡ refusedAt (keyRefusal k m) n′)
 
 -- whenever the writer does not refuse
 abbrev pub WrittenReads : Type 0

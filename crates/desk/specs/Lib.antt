@@ -4,5 +4,6 @@ pub mod CueWord
 pub mod CueExamples
 pub mod Label
 pub mod LabelInner
+pub mod LabelFault
 pub mod LabelWritten
 pub mod LabelExamples

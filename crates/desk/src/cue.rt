@@ -6,7 +6,7 @@ ghost use Rattle.number.specs.Number.{numberAnswered};
 ghost use Rattle.strlib.specs.Pointer.{textOf};
 ghost use Rattle.words.specs.Words.{same, firstWords};
 ghost use Rattle.desk.specs.Cue.{isSize, isGain, wrongWord, cueAnswered, wordOf, cueWordRule};
-ghost use Rattle.desk.specs.CueInner.{indexOf, wordless, inMatrix, inOrder, lineRefusal};
+ghost use Rattle.desk.specs.CueInner.{refusedWord, indexOf, wordless, inMatrix, inOrder, lineRefusal};
 
 // What microphone goes to what loudspeaker, and how loud, in tenths of a decibel.
 pub struct Cue {
@@ -15,10 +15,10 @@ pub struct Cue {
     pub gain: i64,
 }
 
-// What a line is refused with: the refusal's number, and with 11 the number of the first wrong or missing word, 8 for
-// one word too many, 0 for a line that is too long. With every other number the word is 0.
+// What a line is refused with: the number, and with 11 a word: 0 for a line that is too long, else the first wrong or
+// missing fixed word or missing number, from 1, else 8 for an eighth word. With every other number the word is 0.
 pub struct CueFault {
-    pub number: u8,
+    pub refusal: u8,
     pub word: u8,
 }
 
@@ -40,6 +40,12 @@ impl Cue {
     pub const GAIN_MIN: i64 = -960;
 
     pub const GAIN_MAX: i64 = 120;
+}
+
+fn refused(refusal: u8, word: u8) -> CueAnswer
+    ensures { λ r. ⌜ (cueAnswered r, wordOf r) ≡ refusedWord refusal word ⌝ }
+{
+    CueAnswer::Refused(CueFault { refusal, word })
 }
 
 // A line has seven words; an eighth must not be there.
@@ -70,8 +76,8 @@ fn is_word(line: &[u8], word: StrPtr, fixed: &[u8]) -> bool
     words::are_same(strlib::text(line, word), fixed)
 }
 
-// The first of these words that is wrong or missing, from 1; 8 for one too many, 0 for none. What stands in a number's
-// place is not read here.
+// The first wrong or missing fixed word or missing number, from 1; else 8 if there is an eighth word; 0 for none. What
+// stands in a number's place is not read here.
 fn wrong_word(line: &[u8], list: CueWords) -> u8
     requires { ⌜ list ≡ firstWords 8 (now line) 0 ⌝ }
     ensures { λ r. ⌜ r ≡ wrongWord (now (line .entry)) ⌝ }
@@ -136,10 +142,7 @@ fn in_matrix(mics: usize, lsps: usize, n: i64, m: i64, g: i64) -> CueAnswer
             gain: g,
         });
     }
-    CueAnswer::Refused(CueFault {
-        number: 12,
-        word: 0,
-    })
+    refused(12, 0)
 }
 
 // The numbers from left to right, then the matrix.
@@ -153,11 +156,11 @@ fn in_order(
     ensures { λ r. ⌜ (cueAnswered r, wordOf r) ≡ wordless (inOrder mics lsps (numberAnswered n) (numberAnswered m) (numberAnswered g)) ⌝ }
 {
     match n {
-        NumberAnswer::Refused(k) => CueAnswer::Refused(CueFault { number: k, word: 0 }),
+        NumberAnswer::Refused(k) => refused(k, 0),
         NumberAnswer::Given(x) => match m {
-            NumberAnswer::Refused(k) => CueAnswer::Refused(CueFault { number: k, word: 0 }),
+            NumberAnswer::Refused(k) => refused(k, 0),
             NumberAnswer::Given(y) => match g {
-                NumberAnswer::Refused(k) => CueAnswer::Refused(CueFault { number: k, word: 0 }),
+                NumberAnswer::Refused(k) => refused(k, 0),
                 NumberAnswer::Given(z) => in_matrix(mics, lsps, x, y, z),
             },
         },
@@ -170,15 +173,12 @@ pub fn read_cue(line: &[u8], mics: usize, lsps: usize) -> CueAnswer
 {
     let found = line_refusal(line, mics, lsps);
     if found != 0 {
-        return CueAnswer::Refused(CueFault {
-            number: found,
-            word: 0,
-        });
+        return refused(found, 0);
     }
     let list = first_words(line);
     let word = wrong_word(line, list);
     if word != 0 {
-        return CueAnswer::Refused(CueFault { number: 11, word });
+        return refused(11, word);
     }
     let n = number::read(line, list[1], BASE);
     let m = number::read(line, list[4], BASE);

@@ -58,7 +58,7 @@ module _ (a : CueAnswer) where
   unfolding flatCue
   cue-given c g e h = rw (e, h)
 
-  pub cue-refused : (f : CueFault) (g : ℤ) → a ≡ Unread f → g ≡ pos 0 → _≡_ {A = FlatCue} (record { refusal = f .number; word = f .word; microphone = 0; loudspeaker = 0; gain = g }) (flatCue (cueAnswered a, wordOf a))
+  pub cue-refused : (f : CueFault) (g : ℤ) → a ≡ Unread f → g ≡ pos 0 → _≡_ {A = FlatCue} (record { refusal = f .refusal; word = f .word; microphone = 0; loudspeaker = 0; gain = g }) (flatCue (cueAnswered a, wordOf a))
   unfolding flatCue
   cue-refused f g e h = rw (e, h)
 
@@ -66,7 +66,7 @@ pub size-given : (m : ℕ) → _≡_ {A = FlatSize} (record { refusal = 0; offse
 unfolding flatSize
 size-given m = refl
 
-pub size-refused : (f : Fault) → _≡_ {A = FlatSize} (record { refusal = f .number; offset = f .offset; value = 0 }) (flatSize (refusedAt (f .number) (f .offset)))
+pub size-refused : (f : Fault) → _≡_ {A = FlatSize} (record { refusal = f .refusal; offset = f .offset; value = 0 }) (flatSize (refusedAt (f .refusal) (f .offset)))
 unfolding flatSize
 size-refused f = refl
 
@@ -74,14 +74,14 @@ module _ (a : LabelCount) (r : FlatSize) where
   pub records-given : (m : ℕ) → a ≡ Records m → r ≡ flatSize (tells m) → r ≡ flatSize (labelCounted a)
   records-given m e h = rw e h
 
-  pub records-refused : (f : Fault) → a ≡ Uncounted f → r ≡ flatSize (refusedAt (f .number) (f .offset)) → r ≡ flatSize (labelCounted a)
+  pub records-refused : (f : Fault) → a ≡ Uncounted f → r ≡ flatSize (refusedAt (f .refusal) (f .offset)) → r ≡ flatSize (labelCounted a)
   records-refused f e h = rw e h
 
 module _ (a : LabelAdded) (r : FlatSize) where
   pub added-given : (m : ℕ) → a ≡ Added m → r ≡ flatSize (tells m) → r ≡ flatSize (labelAdded a)
   added-given m e h = rw e h
 
-  pub added-refused : (f : Fault) → a ≡ Unadded f → r ≡ flatSize (refusedAt (f .number) (f .offset)) → r ≡ flatSize (labelAdded a)
+  pub added-refused : (f : Fault) → a ≡ Unadded f → r ≡ flatSize (refusedAt (f .refusal) (f .offset)) → r ≡ flatSize (labelAdded a)
   added-refused f e h = rw e h
 
 module _ (a : SetAnswer) where

@@ -87,7 +87,7 @@ pub fn cue(a: CueAnswer) -> FlatCue
             gain: c.gain,
         },
         CueAnswer::Refused(f) => FlatCue {
-            refusal: f.number,
+            refusal: f.refusal,
             word: f.word,
             microphone: 0,
             loudspeaker: 0,
@@ -107,10 +107,10 @@ fn size(value: usize) -> FlatSize
 }
 
 fn no_size(f: Fault) -> FlatSize
-    ensures { λ r. ⌜ r ≡ flatSize (refusedAt (f .number) (f .offset)) ⌝ }
+    ensures { λ r. ⌜ r ≡ flatSize (refusedAt (f .refusal) (f .offset)) ⌝ }
 {
     FlatSize {
-        refusal: f.number,
+        refusal: f.refusal,
         offset: f.offset,
         value: 0,
     }

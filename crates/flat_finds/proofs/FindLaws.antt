@@ -105,7 +105,7 @@ module _ (a : LabelPlace) where
     unfolding flatName
     name-nothing e h = rw e h
 
-    pub name-refused : (f : Fault) → a ≡ Unnamed f → r ≡ noName (f .number) (f .offset) → r ≡ flatName (labelPlaced a)
+    pub name-refused : (f : Fault) → a ≡ Unnamed f → r ≡ noName (f .refusal) (f .offset) → r ≡ flatName (labelPlaced a)
     unfolding flatName
     name-refused f e h = rw e h
 

@@ -209,7 +209,7 @@ pub fn name(a: LabelPlace) -> FlatName
             length: n,
         },
         LabelPlace::Missing => no_name(0, 0),
-        LabelPlace::Refused(f) => no_name(f.number, f.offset),
+        LabelPlace::Refused(f) => no_name(f.refusal, f.offset),
     }
 }
 

@@ -1,18 +1,18 @@
 -- The offset that comes with a list's refusal is the place of its first faulty record, in a good list its length.
 -- Assumes nothing.
-use mathlib.Core.Path.{_≡_, sym, _∙_}
+use mathlib.Core.Path.{_≡_, refl, sym}
 use mathlib.Core.List.{List}
 use Prim.Native.Nat.{ℕ, _≤_, _<_}
 use native.Mathlib.Omega.{arith}
 use lib.Dec.{eqb}
-use lib.ListN.{length, take, drop}
+use lib.ListN.{length}
 use borrow.Author.Tests.{eqb-true, eqb-false, eq-eqb, ne-eqb}
 use Rattle.strlib.proofs.Pointing.{either}
 use Rattle.records.proofs.Goodness.{fault-each, each-fault, good-each, each-good, good-length, fault-first}
-use Rattle.records.proofs.Sizes.{place-begins, place-le}
+use Rattle.records.proofs.Sizes.{place-begins}
 use Rattle.records.proofs.Walking.{lead-before, lead-fails, lead-all, lead-is}
 use Rattle.records.specs.Placed.{Placed}
-use Rattle.records.specs.Record.{placeOf, recordAt, records, behindRefusal, recordRefusal, faultIn, soundIn, listRefusal, faultPlace}
+use Rattle.records.specs.Record.{placeOf, records, recordRefusal, faultIn, soundIn, listRefusal, faultOffset}
 
 module _ (l : List ℕ) where
   sound-before : (k : ℕ) → k < soundIn l (records l) → recordRefusal l k ≡ 0
@@ -38,26 +38,26 @@ module _ (l : List ℕ) where
     unfolding listRefusal
     sound-refusal = sym (fault-first l (records l) (soundIn l (records l)) sound-lt (each-fault l (soundIn l (records l)) sound-before) sound-faulty)
 
-  pub good-place : listRefusal l ≡ 0 → faultPlace l ≡ length l
-  unfolding faultPlace
-  good-place g = rw (sound-good g) (sym (good-length l g))
+  pub good-offset : listRefusal l ≡ 0 → faultOffset l ≡ length l
+  unfolding faultOffset
+  good-offset g = rw (sound-good g) (sym (good-length l g))
 
   -- the first faulty record's place, by the record
-  pub faulty-place : (n : ℕ) → n < records l → faultIn l n ≡ 0 → (recordRefusal l n ≡ 0 → ⊥) → faultPlace l ≡ placeOf l n
-  unfolding faultPlace soundIn
-  faulty-place n h e f =
+  pub faulty-offset : (n : ℕ) → n < records l → faultIn l n ≡ 0 → (recordRefusal l n ≡ 0 → ⊥) → faultOffset l ≡ placeOf l n
+  unfolding faultOffset soundIn
+  faulty-offset n h e f =
       rw (lead-is (λ k. eqb (recordRefusal l k) 0) (records l) n h (λ k i. eq-eqb (recordRefusal l k) 0 (fault-each l n e k i)) (ne-eqb (recordRefusal l n) 0 f))
 
 pub placed : Placed
-unfolding faultPlace recordRefusal recordAt
+unfolding faultOffset
 placed l =
     record {
-      good = good-place l;
-      within = λ f. place-begins l (soundIn l (records l)) (sound-lt l f);
-      there = λ f. sound-refusal l f;
-      before = λ k h.
-          sound-before l k
-          (either (soundIn l (records l)) k
-          (λ (i : soundIn l (records l) ≤ k). absurd (omega (arith, place-le l (soundIn l (records l)) k i)))
-          (λ (i : k < soundIn l (records l)). i));
+      good = good-offset l;
+      faulty = λ f.
+          record {
+            begins = place-begins l (soundIn l (records l)) (sound-lt l f);
+            refusal = sound-refusal l f;
+            offset = refl;
+            before = sound-before l;
+          };
     }

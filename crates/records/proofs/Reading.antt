@@ -13,10 +13,10 @@ use Rattle.strlib.proofs.Pointing.{either}
 use Rattle.strlib.proofs.Refusing.{and-both}
 use Rattle.records.proofs.Goodness.{fault-first, record-room, record-size}
 use Rattle.records.proofs.Likeness.{fresh-front}
-use Rattle.records.proofs.Placing.{faulty-place}
+use Rattle.records.proofs.Placing.{faulty-offset}
 use Rattle.records.proofs.Sizes.{size-least, records-is, records-reach, place-zero, place-suc, place-le}
 use Rattle.records.specs.Record.{recordSize, kindOf, numberIn, placeOf, recordAt, records, isRecord, recordOf, isFresh, behindRefusal, recordRefusal}
-use Rattle.records.specs.Record.{earlier, faultIn, listRefusal, faultPlace}
+use Rattle.records.specs.Record.{earlier, faultIn, listRefusal, faultOffset}
 use Rattle.records.specs.Walk.{lastOf}
 
 -- what a record is, as two equations
@@ -77,9 +77,9 @@ module _ (l : List ℕ) (n place : ℕ) (r : Reached l n place) where
       e ∙ here ∙ sym (fault-first l (records l) n (more h) (r .sound) (λ (z : recordRefusal l n ≡ 0). f (e ∙ here ∙ z)))
 
   -- where the next record is faulty, the list's offset is its place
-  pub reached-place : place < length l → (k : ℕ) → k ≡ behindRefusal (take place l) (drop place l) → (k ≡ 0 → ⊥) → place ≡ faultPlace l
-  reached-place h k e f =
-      r .next ∙ sym (faulty-place l n (more h) (r .sound) (λ (z : recordRefusal l n ≡ 0). f (e ∙ here ∙ z)))
+  pub reached-offset : place < length l → (k : ℕ) → k ≡ behindRefusal (take place l) (drop place l) → (k ≡ 0 → ⊥) → place ≡ faultOffset l
+  reached-offset h k e f =
+      r .next ∙ sym (faulty-offset l n (more h) (r .sound) (λ (z : recordRefusal l n ≡ 0). f (e ∙ here ∙ z)))
 
   module _ (h : length l ≤ place) where
     pub reached-count : n ≡ records l

@@ -29,20 +29,20 @@ module _ (k m : ℕ) (e : k ≡ m) where
   ruled-at-yes q x y t new old h f g = rw (← (told-yes q x y h f), ← (after-yes k m e t new old h g))
 
 -- an answer that is no refusal
-pub told-gave : {A : Type 0} (k place : ℕ) (x y : A) → told k place x ≡ tells y → (k ≡ 0) × (x ≡ y)
+pub told-gave : {A : Type 0} (k offset : ℕ) (x y : A) → told k offset x ≡ tells y → (k ≡ 0) × (x ≡ y)
 unfolding told
-told-gave zero place x y e = (refl, cc)
-told-gave (suc k) place x y e = let z : _≡_ {A = ℕ} 0 1 = cc in absurd (omega arith)
+told-gave zero offset x y e = (refl, cc)
+told-gave (suc k) offset x y e = let z : _≡_ {A = ℕ} 0 1 = cc in absurd (omega arith)
 
-pub ruled-at-gave : {A : Type 0} (k place : ℕ) (x y : A) (new old : List ℕ) → ruledAt k place x new old .0 ≡ tells y → (k ≡ 0) × ((x ≡ y) × (ruledAt k place x new old .1 ≡ new))
+pub ruled-at-gave : {A : Type 0} (k offset : ℕ) (x y : A) (new old : List ℕ) → ruledAt k offset x new old .0 ≡ tells y → (k ≡ 0) × ((x ≡ y) × (ruledAt k offset x new old .1 ≡ new))
 unfolding ruledAt after
-ruled-at-gave k place x y new old e = let g = told-gave k place x y e in (g .0, (g .1, rw (g .0)))
+ruled-at-gave k offset x y new old e = let g = told-gave k offset x y e in (g .0, (g .1, rw (g .0)))
 
 -- and one that is
-pub told-is : {A : Type 0} (k place : ℕ) (x : A) (n offset : ℕ) → told k place x ≡ refusedAt n offset → (n ≡ k) × ((offset ≡ place) × (n ≡ 0 → ⊥))
+pub told-is : {A : Type 0} (k q : ℕ) (x : A) (n p : ℕ) → told k q x ≡ refusedAt n p → (n ≡ k) × ((p ≡ q) × (n ≡ 0 → ⊥))
 unfolding told
-told-is zero place x n offset e = let z : _≡_ {A = ℕ} 0 1 = cc in absurd (omega arith)
-told-is (suc k) place x n offset e =
+told-is zero q x n p e = let z : _≡_ {A = ℕ} 0 1 = cc in absurd (omega arith)
+told-is (suc k) q x n p e =
     let f : n ≡ suc k = cc in
-    let g : offset ≡ place = cc in
+    let g : p ≡ q = cc in
     (f, (g, λ z. omega arith))

@@ -2,17 +2,19 @@
 use Prim.Native.Nat.{ℕ, _<_}
 use mathlib.Core.Path.{_≡_}
 use mathlib.Core.List.{List}
-use lib.ListN.{length, take, drop}
-use Rattle.records.specs.Record.{placeOf, behindRefusal, recordRefusal, listRefusal, faultPlace}
+use lib.ListN.{length}
+use Rattle.records.specs.Record.{placeOf, records, recordRefusal, soundIn, listRefusal, faultOffset}
+
+-- record k, counted from 0, begins in the list, has its refusal and stands at its offset, and all before it have none
+pub record FirstFaulty (l : List ℕ) (k : ℕ) : Type 0 where
+  pub begins : placeOf l k < length l
+  pub refusal : recordRefusal l k ≡ listRefusal l
+  pub offset : faultOffset l ≡ placeOf l k
+  pub before : (j : ℕ) → j < k → recordRefusal l j ≡ 0
 
 pub record PlacedIn (l : List ℕ) : Type 0 where
-  -- in a good list it is the list's length
-  pub good : listRefusal l ≡ 0 → faultPlace l ≡ length l
-  -- in a faulty one a byte of the list stands there, and the record that begins with it has the list's refusal
-  pub within : (listRefusal l ≡ 0 → ⊥) → faultPlace l < length l
-  pub there : (listRefusal l ≡ 0 → ⊥) → behindRefusal (take (faultPlace l) l) (drop (faultPlace l) l) ≡ listRefusal l
-  -- all records before it have none
-  pub before : (k : ℕ) → placeOf l k < faultPlace l → recordRefusal l k ≡ 0
+  pub good : listRefusal l ≡ 0 → faultOffset l ≡ length l
+  pub faulty : (listRefusal l ≡ 0 → ⊥) → FirstFaulty l (soundIn l (records l))
 
 abbrev pub Placed : Type 0
 Placed = (l : List ℕ) → PlacedIn l

@@ -81,7 +81,7 @@ bodyChecks rest =
 unfoldable pub bodyRefusal : List ℕ → ℕ
 bodyRefusal rest = first (bodyChecks rest)
 
--- and behind the list `met`, which has none of its kind and number
+-- and behind the list `met`, in which none may have its kind and number
 abbrev pub behindChecks : List ℕ → List ℕ → List (ℕ × Bool)
 behindChecks met rest = bodyChecks rest ++ ((14, isFresh met (kindOf rest) (numberIn rest)) ∷ [])
 
@@ -112,8 +112,8 @@ soundIn l n = leadOf (λ k. eqb (recordRefusal l k) 0) n
 
 -- the offset that comes with a refusal, from 0: that of the first faulty record's kind byte, which in a good list is the
 -- list's length
-unfoldable pub faultPlace : List ℕ → ℕ
-faultPlace l = placeOf l (soundIn l (records l))
+unfoldable pub faultOffset : List ℕ → ℕ
+faultOffset l = placeOf l (soundIn l (records l))
 
 -- what a kind and a number that are asked for or added are refused with
 abbrev pub keyChecks : ℕ → ℕ → List (ℕ × Bool)

@@ -10,9 +10,9 @@ pub data Told (A : Type 0) : Type 0 where
 
 -- the answer, from the refusal's number and the offset
 unfoldable pub told : {A : Type 0} → ℕ → ℕ → A → Told A
-told zero place x = tells x
-told (suc k) place x = refusedAt (suc k) place
+told zero offset x = tells x
+told (suc k) offset x = refusedAt (suc k) offset
 
 -- a call that writes: its answer, and what it was lent
 unfoldable pub ruledAt : {A : Type 0} → ℕ → ℕ → A → List ℕ → List ℕ → Told A × List ℕ
-ruledAt k place x new old = (told k place x, after k new old)
+ruledAt k offset x new old = (told k offset x, after k new old)

@@ -20,9 +20,9 @@ pub use lists::rest_of;
 pub use news::new_refusal;
 pub use news::write_record;
 
-// What a label list is refused with: the refusal's number, and the offset of the faulty record's kind byte, or the
+// What a call on a label list is refused with: the number, and the offset of the faulty record's kind byte, or the
 // list's length where no record in it is at fault.
 pub struct Fault {
-    pub number: u8,
+    pub refusal: u8,
     pub offset: usize,
 }

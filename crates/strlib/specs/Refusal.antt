@@ -16,8 +16,8 @@ pub data Sought (A : Type 0) : Type 0 where
   nowhere : Sought A
   at : A → Sought A
 
--- checks in their order, each a refusal's number with what has to hold: the number of the first that does not hold, 0
--- if all do
+-- checks in their order, each a number (a refusal's, mostly) with what has to hold: the number of the first that does
+-- not hold, 0 if all do
 abbrev pub first : List (ℕ × Bool) → ℕ
 first [] = 0
 first (c ∷ cs) = cond (c .1) (first cs) (c .0)

@@ -12,13 +12,13 @@ pub enum LabelAdded {
     Refused(Fault),
 }
 
-// What is refused, with the number 0 for nothing.
+// The refusal, 0 for none, and its offset.
 fn add_fault(buffer: &[u8], used: usize, kind: usize, number: usize, name: &[u8]) -> Fault
     ensures { λ r. ⌜ r ≡ addFault (now (buffer .entry)) used kind number (now (name .entry)) ⌝ }
 {
     if buffer.len() < used {
         return Fault {
-            number: 4,
+            refusal: 4,
             offset: used,
         };
     }
@@ -26,7 +26,7 @@ fn add_fault(buffer: &[u8], used: usize, kind: usize, number: usize, name: &[u8]
     let count = read::read_labels(list);
     match count {
         LabelCount::Records(_) => Fault {
-            number: records::new_refusal(list, buffer.len() - used, kind, number, name),
+            refusal: records::new_refusal(list, buffer.len() - used, kind, number, name),
             offset: list.len(),
         },
         LabelCount::Refused(fault) => fault,
@@ -44,7 +44,7 @@ pub fn add_label(
     ensures { λ r. ⌜ (labelAdded r, now (buffer .exit)) ≡ addRule (now (buffer .entry)) used kind number (now (name .entry)) ⌝ }
 {
     let fault = add_fault(buffer, used, kind, number, name);
-    if fault.number != 0 {
+    if fault.refusal != 0 {
         return LabelAdded::Refused(fault);
     }
     records::write_record(buffer, used, kind, number, name);

@@ -41,7 +41,7 @@ pub fn find_label(list: &[u8], kind: usize, number: usize) -> LabelPlace
             let found = records::key_refusal(kind, number);
             if found != 0 {
                 return LabelPlace::Refused(Fault {
-                    number: found,
+                    refusal: found,
                     offset: list.len(),
                 });
             }

@@ -23,8 +23,8 @@ fn mark_of(kind: usize, number: usize) -> usize
     ROW * kind + number
 }
 
-// How many records a list has, or what the first faulty one is refused with, and where it lies. A good list has each kind and number once
-// and so 192 records at most: of a longer list, record 193 is the last that is looked at.
+// How many records a list has, or what the first faulty one is refused with, and where it lies. A good list has no kind and
+// number twice and so 192 records at most: of a longer list, record 193 is the last that may be looked at.
 pub fn read_labels(list: &[u8]) -> LabelCount
     ensures { λ r. ⌜ labelCounted r ≡ readLabelsRule (now (list .entry)) ⌝ }
 {
@@ -33,14 +33,17 @@ pub fn read_labels(list: &[u8]) -> LabelCount
     let mut n = 0;
     while offset < list.len() {
         let rest = records::rest_of(list, offset);
-        let number = records::body_refusal(rest);
-        if number != 0 {
-            return LabelCount::Refused(Fault { number, offset });
+        let refusal = records::body_refusal(rest);
+        if refusal != 0 {
+            return LabelCount::Refused(Fault { refusal, offset });
         }
         let kind = records::kind_of(rest);
         let mark = mark_of(kind, records::number_of(rest));
         if met[mark] {
-            return LabelCount::Refused(Fault { number: 14, offset });
+            return LabelCount::Refused(Fault {
+                refusal: 14,
+                offset,
+            });
         }
         met[mark] = true;
         offset += records::size_of(kind);

@@ -12,4 +12,5 @@ in-matrix-spec =
     (λ c κs. tt)
     (λ c κs. tt)
     (λ c. search matrix-laws)
+    (λ c κs. tt)
     (λ c. search matrix-laws))

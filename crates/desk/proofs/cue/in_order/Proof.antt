@@ -7,10 +7,13 @@ in-order-spec =
     tie.close
     (tie.spec
     (λ c. search order-laws)
+    (λ c κs. tt)
     (λ c. search order-laws)
     (λ c. search order-laws)
+    (λ c κs. tt)
     (λ c. search order-laws)
     (λ c. search order-laws)
+    (λ c κs. tt)
     (λ c. search order-laws)
     (λ c κs. tt)
     (λ c. search order-laws)

@@ -7,9 +7,11 @@ read-cue-spec =
     tie.close
     (tie.spec
     (λ c κs. tt)
+    (λ c κs. tt)
     (λ c. search cue-laws)
     (λ c κs. tt)
     (λ c κs. search cue-laws)
+    (λ c κs. tt)
     (λ c. search cue-laws)
     (λ c. search cue-laws)
     (λ c κs. tt)

@@ -15,7 +15,7 @@ use Rattle.number.specs.Number.{numberAnswered}
 use Rattle.number.specs.declared.NumberAnswer.{NumberAnswer}
 use Rattle.number.specs.declared.NumberAnswer.the-variants.{Given as Number, Refused as NoNumber}
 use Rattle.strlib.proofs.Refusing.{and-both, outcome-no, outcome-yes}
-use Rattle.strlib.specs.Refusal.{Outcome, refused, gives, first}
+use Rattle.strlib.specs.Refusal.{Outcome, gives, first}
 use Rattle.desk.specs.declared.cue.Cue.{Cue}
 use Rattle.desk.specs.Cue.{isIndex, isGain, matrixChecks, cueOf}
 use Rattle.desk.specs.CueInner.{refusedWord, indexOf, wordless, inMatrix, inOrder}

@@ -18,7 +18,7 @@ use Rattle.records.proofs.Checking.{Writable, writable}
 use Rattle.records.proofs.Limits.{in-range, earlier-none, earlier-found, earlier-zero}
 use Rattle.records.proofs.Placing.{good-offset}
 use Rattle.records.proofs.Telling.{ruled-at-no, ruled-at-yes}
-use Rattle.records.specs.Record.{recordSize, earlier, listRefusal, faultOffset, newRefusal, labelBytes, fittedBytes}
+use Rattle.records.specs.Record.{recordSize, earlier, listRefusal, newRefusal, labelBytes, fittedBytes}
 use Rattle.records.specs.Told.{refusedAt, tells}
 use Rattle.records.specs.declared.Fault.{Fault}
 use Rattle.desk.proofs.LabelReading.{answered-good, answered-refused}

@@ -1,7 +1,7 @@
 -- The label calls' refusals with their offsets, case by case of the rules. Assumes nothing.
-use mathlib.Core.Path.{_≡_, refl, sym, ap, _∙_}
+use mathlib.Core.Path.{_≡_, refl, sym, _∙_}
 use mathlib.Core.List.{List}
-use Prim.Native.Nat.{ℕ, _+_, _-_, _≤_, _<_}
+use Prim.Native.Nat.{ℕ, _+_, _-_, _≤_}
 use native.Mathlib.Omega.{arith}
 use lib.ListN.{length, take}
 use borrow.Author.Tests.{le-leb, lt-leb}
@@ -23,7 +23,9 @@ module _ (b : List ℕ) (n kind number : ℕ) (name : List ℕ) (k offset : ℕ)
 
   module _ (i : n ≤ length b) where
     list-not : k ≡ listRefusal (take n b) → offset ≡ faultOffset (take n b) → addRule b n kind number name ≡ (refusedAt k offset, b)
-    list-not e f = writes-not (unfold addRefusal in rw (le-leb n (length b) i) (e ∙ sym (earlier-found (listRefusal (take n b)) _ (λ z. h (e ∙ z))))) (unfold addOffset in rw (le-leb n (length b) i) f)
+    list-not e f =
+        writes-not (unfold addRefusal in rw (le-leb n (length b) i) (e ∙ sym (earlier-found (listRefusal (take n b)) _ (λ z. h (e ∙ z)))))
+        (unfold addOffset in rw (le-leb n (length b) i) f)
 
     new-not : listRefusal (take n b) ≡ 0 → k ≡ newRefusal (take n b) (length b - n) kind number name → offset ≡ length (take n b)
         → addRule b n kind number name ≡ (refusedAt k offset, b)
@@ -38,7 +40,9 @@ faults =
           record {
             read = unfold readLabelsRule in sym (told-no (listRefusal l) (listRefusal l) refl (faultOffset l) (faultOffset l) (records l) refl f);
             find = λ kind number. unfold findLabelRule in
-                sym (told-no (listRefusal l) _ (sym (earlier-found (listRefusal l) (keyRefusal kind number) f)) (faultOffset l) (faultOffset l) (nameOf l (recordOf l kind number (records l))) refl f);
+                sym
+                (told-no (listRefusal l) _ (sym (earlier-found (listRefusal l) (keyRefusal kind number) f)) (faultOffset l) (faultOffset l)
+                (nameOf l (recordOf l kind number (records l))) refl f);
             add = λ b n kind number name i e.
                 list-not b n kind number name (listRefusal l) (faultOffset l) f i (rw e) (rw e);
           };

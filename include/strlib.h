@@ -3,9 +3,9 @@
  * Every call takes any bytes, string pointers and numbers and checks them itself. A refusal gives its number (README.md has
  * the table), 0 being none, and changes nothing that was lent. On a refusal all other fields of the answer are 0, down
  * to those of a pointer or place in it, but for three: what strlib_burst's answer carries, which is what was given (see
- * strlib_burst_answer), the `word` of a strlib_cue, and the `offset` of a strlib_size and of a strlib_name. Nothing found
- * is no refusal; then too all fields are 0, `found` with them, but for the number read in a strlib_note and for what a
- * burst's run carries on.
+ * strlib_burst_answer), the `word` of a strlib_cue, and the `offset` of a strlib_size and of a strlib_name. Nothing
+ * found is no refusal; then too all fields are 0, `found` with them, but for the number read in a strlib_note and for
+ * what a burst's run carries on.
  *
  * Memory is lent as a pointer and a number of elements; with the number 0 the pointer may be NULL. What is lent to be
  * written (a pointer without const) shares no byte with anything else lent to the same call. Each call is proved to

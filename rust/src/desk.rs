@@ -11,8 +11,8 @@ pub struct Cue {
     pub gain: i64,
 }
 
-/// The number of a cue line's refusal. With 11 comes a word, and with no other number: 0 for a line over 80 characters, else
-/// the first wrong or missing fixed word or missing number, counted from 1, else 8 for an eighth word.
+/// The number of a cue line's refusal. With 11 comes a word, and with no other number: 0 for a line over 80 characters,
+/// else the first wrong or missing fixed word or missing number, counted from 1, else 8 for an eighth word.
 #[derive(Clone, Copy, Debug, PartialEq, Eq)]
 pub struct CueRefusal {
     pub number: u8,
@@ -31,8 +31,8 @@ impl fmt::Display for CueRefusal {
 
 impl std::error::Error for CueRefusal {}
 
-/// The number of a label list's refusal, and the offset (from 0) of the kind byte of the record that is at fault, or the
-/// list's length where no record in the list is. Nothing that was lent has changed.
+/// The number of a label list's refusal, and the offset (from 0) of the kind byte of the record that is at fault, or
+/// the list's length where no record in the list is. Nothing that was lent has changed.
 #[derive(Clone, Copy, Debug, PartialEq, Eq)]
 pub struct LabelRefusal {
     pub number: u8,
@@ -64,7 +64,8 @@ pub struct Name {
     pub length: usize,
 }
 
-/// Reads `MIC n TO LSP m GAIN g` for a matrix of 1 to 64 by 1 to 128. Refusals 3, 2, 11, then 7 or 8 from left to right, 12.
+/// Reads `MIC n TO LSP m GAIN g` for a matrix of 1 to 64 by 1 to 128. Refusals 3, 2, 11, then 7 or 8 from left to
+/// right, 12.
 pub fn read_cue(line: &[u8], microphones: usize, loudspeakers: usize) -> Result<Cue, CueRefusal> {
     let answer =
         unsafe { ffi::strlib_read_cue(line.as_ptr(), line.len(), microphones, loudspeakers) };
@@ -81,8 +82,8 @@ pub fn read_cue(line: &[u8], microphones: usize, loudspeakers: usize) -> Result<
     }
 }
 
-/// Counts the records of a label list. Refusals, record by record: 11 (kind), 13 (body cut short), 12, 2, 14 (kind and number
-/// repeated).
+/// Counts the records of a label list. Refusals, record by record: 11 (kind), 13 (body cut short), 12, 2, 14 (kind and
+/// number repeated).
 pub fn read_labels(list: &[u8]) -> Result<usize, LabelRefusal> {
     let answer = unsafe { ffi::strlib_read_labels(list.as_ptr(), list.len()) };
     LabelRefusal::check(answer.refusal, answer.offset)?;

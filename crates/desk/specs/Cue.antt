@@ -32,8 +32,8 @@ wordOf (Refused f) = f .word
 abbrev pub word : List ℕ → ℕ → List ℕ
 word line k = getD (words line) (k - 1) []
 
--- the words by their numbers, each with what has to hold: a fixed word is itself, a number's word is there, and there is
--- no eighth
+-- the words by their numbers, each with what has to hold: a fixed word is itself, a number's word is there, and there
+-- is no eighth
 abbrev pub formedChecks : List ℕ → List (ℕ × Bool)
 formedChecks line =
     (1, same (word line 1) (bytes "MIC"))
@@ -109,8 +109,8 @@ unfoldable pub cueRule : List ℕ → ℕ → ℕ → Outcome Cue
 cueRule line mics lsps =
     outcome (cueRefusal line mics lsps) (cueOf (numberOf 10 (micWord line)) (numberOf 10 (lspWord line)) (numberOf 10 (gainWord line)))
 
--- the word that comes with it: with 11, 0 for a line over 80 characters, else what is wrong in its form; with every other
--- number and with a cue, 0
+-- the word that comes with it: with 11, 0 for a line over 80 characters, else what is wrong in its form; with every
+-- other number and with a cue, 0
 unfoldable pub cueWord : List ℕ → ℕ → ℕ → ℕ
 cueWord line mics lsps = cond (eqb (cueRefusal line mics lsps) 11) (cond (leb (length line) 80) (wrongWord line) 0) 0
 

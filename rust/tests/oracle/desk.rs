@@ -6,7 +6,8 @@ use super::*;
 use std::collections::HashSet;
 use strlib::{Cue, CueRefusal, LabelRefusal, Name};
 
-/// W2: the number of the first wrong or missing fixed word or missing number, else 8 if there is an eighth word; 0 for none.
+/// W2: the number of the first wrong or missing fixed word or missing number, else 8 if there is an eighth word; 0 for
+/// none.
 fn word_at_fault(words: &[&[u8]]) -> u8 {
     const FORM: [Option<&[u8]>; 7] = [
         Some(b"MIC"),

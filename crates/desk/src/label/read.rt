@@ -23,8 +23,8 @@ fn mark_of(kind: usize, number: usize) -> usize
     ROW * kind + number
 }
 
-// How many records a list has, or what the first faulty one is refused with, and where it lies. A good list has no kind and
-// number twice and so 192 records at most: of a longer list, record 193 is the last that may be looked at.
+// How many records a list has, or what the first faulty one is refused with and where it lies. A good list has no kind
+// and number twice and so 192 records at most: of a longer list, record 193 is the last that may be looked at.
 pub fn read_labels(list: &[u8]) -> LabelCount
     ensures { λ r. ⌜ labelCounted r ≡ readLabelsRule (now (list .entry)) ⌝ }
 {

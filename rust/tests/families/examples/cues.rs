@@ -36,8 +36,8 @@ const CUES: &[(&str, (usize, usize), &[u8], Want<(usize, usize, i64), (u8, Optio
     ("eight-first", MATRIX, b"MIC 34359738368 TO LSP x GAIN 0", Err((8, None))),
     ("twelve-last", MATRIX, b"MIC 65 TO LSP x GAIN 0", Err((7, None))),
     ("in-range", MATRIX, b"MIC 34359738367 TO LSP 1 GAIN 0", Err((12, None))),
-    // 11 before any number, with the first wrong or missing word by its place: no words at all, capitals only, a tab is no
-    // blank
+    // 11 before any number, with the first wrong or missing word by its place: no words at all, capitals only, a tab
+    // is no blank
     ("empty", MATRIX, b"", Err((11, Some(1)))),
     ("blanks", MATRIX, b"    ", Err((11, Some(1)))),
     ("other-word", MATRIX, b"FOO", Err((11, Some(1)))),

@@ -109,7 +109,8 @@ static void added(const char *call, strlib_size a) {
     lent();
 }
 static void name(const char *call, strlib_name a) {
-    printf(REFUSAL ", found %d, offset %zu, place %zu, length %zu\n", call, a.refusal, a.found, a.offset, a.place, a.length);
+    printf(REFUSAL ", found %d, offset %zu", call, a.refusal, a.found, a.offset);
+    printf(", place %zu, length %zu\n", a.place, a.length);
 }
 
 #endif

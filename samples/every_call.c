@@ -345,6 +345,7 @@ static void desk(void) {
 
     records(CALL(strlib_read_labels(LENT(CELLO GALLERY))));
     records(CALL(strlib_read_labels(NULL, 0)));
+    records(CALL(strlib_read_labels(LENT(CELLO "\003"))));
     records(CALL(strlib_read_labels((const uint8_t *)CELLO GALLERY, 37)));
     records(CALL(strlib_read_labels(LENT(CELLO PAST))));
     records(CALL(strlib_read_labels(LENT(CELLO "\002\000\001CELL\177           "))));

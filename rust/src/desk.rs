@@ -31,8 +31,9 @@ impl fmt::Display for CueRefusal {
 
 impl std::error::Error for CueRefusal {}
 
-/// The number of a label list's refusal, and the offset (from 0) of the kind byte of the record that is at fault, or
-/// the list's length where no record in the list is. Nothing that was lent has changed.
+/// The number of a label call's refusal, and the offset (from 0) of the kind byte of the record that is at fault, or
+/// the list's length where no record in the list is; for `add_label` that is the length it was told. Nothing that was
+/// lent has changed.
 #[derive(Clone, Copy, Debug, PartialEq, Eq)]
 pub struct LabelRefusal {
     pub number: u8,

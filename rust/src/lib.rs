@@ -2,7 +2,8 @@
 //!
 //! A store is a slice of bytes that the caller lends, at most 65,536 of them; a string is a [`StrPtr`] into it. Every
 //! call takes any bytes, pointers and numbers and checks them itself. A [`Refusal`] changes nothing that was lent; that
-//! of a cue line says which word is at fault ([`CueRefusal`]), that of a label list which record ([`LabelRefusal`]).
+//! of a cue line says which word is at fault, if one is ([`CueRefusal`]), that of a label call which record
+//! ([`LabelRefusal`]).
 //!
 //! `rt staticlib strlib_c` in the folder above makes the library that this package links; `cargo test --release` compares every
 //! call with documents 01 and 02.

@@ -54,6 +54,6 @@ faults =
             add = λ b n kind number name i e f.
                 new-not b n kind number name (newRefusal l (length b - n) kind number name) (length l) f i (rw e g) (rw e) (rw e);
           };
-      told = λ b n kind number name h.
+      past = λ b n kind number name h.
           writes-not b n kind number name 4 n (λ (z : _≡_ {A = ℕ} 4 0). omega arith) (unfold addRefusal in rw (lt-leb n (length b) h)) (unfold addOffset in rw (lt-leb n (length b) h));
     }

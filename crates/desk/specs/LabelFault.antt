@@ -24,4 +24,4 @@ pub record Faults : Type 0 where
   pub listed : (l : List ℕ) → (listRefusal l ≡ 0 → ⊥) → ListFault l
   pub asked : (l : List ℕ) → listRefusal l ≡ 0 → AskedFault l
   -- a length over the buffer's: with that length
-  pub told : (b : List ℕ) (n kind number : ℕ) (name : List ℕ) → length b < n → addRule b n kind number name ≡ (refusedAt 4 n, b)
+  pub past : (b : List ℕ) (n kind number : ℕ) (name : List ℕ) → length b < n → addRule b n kind number name ≡ (refusedAt 4 n, b)

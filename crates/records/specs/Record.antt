@@ -110,8 +110,8 @@ listRefusal l = faultIn l (records l)
 unfoldable pub soundIn : List ℕ → ℕ → ℕ
 soundIn l n = leadOf (λ k. eqb (recordRefusal l k) 0) n
 
--- the offset that comes with a refusal, from 0: that of the first faulty record's kind byte, which in a good list is
--- the list's length
+-- the offset that comes with a refusal, from 0: that of the first faulty record's kind byte; in a good list the list's
+-- length
 unfoldable pub faultOffset : List ℕ → ℕ
 faultOffset l = placeOf l (soundIn l (records l))
 

@@ -10,7 +10,7 @@ const MATRIX: (usize, usize) = (64, 128);
 const LONG: &[u8] =
     b"   MIC       0000000000007  TO     LSP    00000000000000031    GAIN         -120 ";
 
-/// Eight words, with 59 blanks behind the seventh.
+/// Seven words and 59 blanks, and an eighth word behind them.
 const EIGHT: &[u8] =
     b"MIC 7 TO LSP 31 GAIN 0                                                           0";
 
@@ -67,6 +67,7 @@ const CUES: &[(&str, (usize, usize), &[u8], Want<(usize, usize, i64), (u8, Optio
     ("too-long", MATRIX, LONG, Err((11, Some(0)))),
     ("blanks-80", MATRIX, &[32; 80], Err((11, Some(1)))),
     ("blanks-81", MATRIX, &[32; 81], Err((11, Some(0)))),
+    ("seven-and-blanks", MATRIX, EIGHT.split_at(81).0, Err((11, Some(0)))),
     ("long-eight", MATRIX, EIGHT, Err((11, Some(0)))),
     // 2 goes before it
     ("long-byte-128", MATRIX, &[128; 81], Err((2, None))),
@@ -78,7 +79,7 @@ const CUES: &[(&str, (usize, usize), &[u8], Want<(usize, usize, i64), (u8, Optio
 
 #[test]
 fn examples_of_cue_lines() {
-    assert_eq!(LONG.len(), 81);
+    assert_eq!((LONG.len(), EIGHT.len()), (81, 82));
     for &(example, (microphones, loudspeakers), line, want) in CUES {
         for (whose, read_cue) in both([strlib::read_cue, desk::read_cue]) {
             let cue = read_cue(line, microphones, loudspeakers);

@@ -2,14 +2,14 @@
 -- the numbers are read as texts of characters, in order. Assumes nothing.
 use mathlib.Core.Path.{_≡_, refl, sym, ap, _∙_}
 use mathlib.Core.Bool.{Bool, true, false, cond, _&&_}
-use mathlib.Core.List.{List, [], _∷_, _++_}
+use mathlib.Core.List.{List, [], _++_}
 use Prim.Native.Nat.{ℕ, zero, suc, _<_}
 use native.Mathlib.Omega.{arith}
 use borrow.Author.Needs.{needs}
 use borrow.Author.Tests.{eqb-true, eq-eqb, ne-eqb}
 use lib.Dec.{leb, eqb}
 use lib.IntN.{ℤ}
-use lib.ListN.{length, getD}
+use lib.ListN.{length, getD, take}
 use Rattle.number.proofs.Telling.{read-text}
 use Rattle.number.specs.Text.{numberOf}
 use Rattle.number.specs.Number.{ofText, readRule}
@@ -87,21 +87,16 @@ cue s = cueOf (numberOf 10 (micWord s)) (numberOf 10 (lspWord s)) (numberOf 10 (
 module _ (s : List ℕ) (mics lsps k : ℕ) (ek : k ≡ lineRefusal s mics lsps) where
   -- a refusal before the words has no word: it is 11 only of a line over 80 characters
   module _ (h : k ≡ 0 → ⊥) where
-    early : k ≡ cueRefusal s mics lsps
+    pub early : k ≡ cueRefusal s mics lsps
     unfolding cueRefusal lineRefusal
     early = first-before (lineChecks s mics lsps) (wordChecks s mics lsps) k ek h
 
-    long : k ≡ 11 → leb (length s) 80 ≡ false
+    pub long : k ≡ 11 → leb (length s) 80 ≡ false
     unfolding lineRefusal
-    long e = bool-case (leb (length s) 80) (λ t. absurd (short t)) (λ f. f)
-      where
-        before : List (ℕ × Bool)
-        before = (3, storeFits s) ∷ (3, isSize 64 mics) ∷ (3, isSize 128 lsps) ∷ (2, characters s) ∷ []
-
-        short : leb (length s) 80 ≡ true → ⊥
-        short t =
-            let f : first before ≡ 11 = rw t at (sym ek ∙ e) in
-            omega (arith, first-other 11 before refl f)
+    long e =
+        bool-case (leb (length s) 80)
+        (λ t. let f : first (take 4 (lineChecks s mics lsps)) ≡ 11 = rw t at (sym ek ∙ e) in absurd (omega (arith, first-other 11 (take 4 (lineChecks s mics lsps)) refl f)))
+        (λ f. f)
 
     no-word : 0 ≡ cueWord s mics lsps
     unfolding cueWord
@@ -116,7 +111,7 @@ module _ (s : List ℕ) (mics lsps k : ℕ) (ek : k ≡ lineRefusal s mics lsps)
     passes = line-passed s mics lsps (sym ek ∙ z)
 
     -- the words decide
-    behind : cueRefusal s mics lsps ≡ cond (eqb w 0) (first (numberChecks mics lsps (micWord s) (lspWord s) (gainWord s))) 11
+    pub behind : cueRefusal s mics lsps ≡ cond (eqb w 0) (first (numberChecks mics lsps (micWord s) (lspWord s) (gainWord s))) 11
     unfolding cueRefusal lineRefusal formed
     behind = first-behind (lineChecks s mics lsps) (wordChecks s mics lsps) refl (sym ek ∙ z) ∙ rw ew
 

@@ -2,19 +2,20 @@
 -- Assumes nothing.
 use mathlib.Core.Path.{_≡_, refl, sym, _∙_}
 use mathlib.Core.Bool.{Bool, true, false, true≢false, _&&_}
-use mathlib.Core.List.{List, _∷_}
+use mathlib.Core.List.{List}
 use Prim.Native.Nat.{ℕ, _≤_}
 use native.Mathlib.Omega.{arith}
-use borrow.Author.Tests.{leb-true, ltb-true, le-leb, lt-leb, eq-eqb, ne-eqb, eqb-true}
+use borrow.Author.Tests.{leb-true, ltb-true, le-leb, lt-leb, eq-eqb, ne-eqb, eqb-true, eqb-false}
 use lib.Dec.{eqb}
 use lib.ListN.{length}
 use Rattle.strlib.proofs.Refusing.{bool-case, and-both, passed, first-under, first-other}
-use Rattle.strlib.specs.Pointer.{storeFits, characters}
 use Rattle.strlib.specs.Quoted.{bytes}
 use Rattle.strlib.specs.Refusal.{first}
 use Rattle.words.specs.Words.{words, same}
+use Rattle.desk.proofs.CueReading.{early, long, behind}
 use Rattle.desk.proofs.CueWords.{word-there}
-use Rattle.desk.specs.Cue.{word, formedChecks, wrongWord, formed, isSize, micWord, lspWord, gainWord, numberChecks, cueRefusal, cueWord}
+use Rattle.desk.specs.Cue.{word, formedChecks, wrongWord, formed, micWord, lspWord, gainWord, numberChecks, cueRefusal, cueWord}
+use Rattle.desk.specs.CueInner.{lineRefusal}
 use Rattle.desk.specs.CueWord.{formedBefore, FormedSame, Worded}
 
 -- ---- the form
@@ -49,15 +50,20 @@ formed-same line =
 -- ---- the word
 
 module _ (line : List ℕ) (mics lsps : ℕ) (e : cueRefusal line mics lsps ≡ 11) (h : length line ≤ 80) where
-  abbrev others : List (ℕ × Bool)
-  others = (3, storeFits line) ∷ (3, isSize 64 mics) ∷ (3, isSize 128 lsps) ∷ (2, characters line) ∷ numberChecks mics lsps (micWord line) (lspWord line) (gainWord line)
-
-  -- nothing but the words gives 11
+  -- nothing but the words gives 11: not what stands before them in a line so short, and not the numbers
   some : wrongWord line ≡ 0 → ⊥
-  unfolding cueRefusal formed
-  some z =
-      let f : first others ≡ 11 = rw (le-leb (length line) 80 h, z) at e in
-      omega (arith, first-other 11 others refl f)
+  some z = bool-case (eqb (lineRefusal line mics lsps) 0) (λ t. later (eqb-true (lineRefusal line mics lsps) 0 t)) (λ f. sooner (eqb-false (lineRefusal line mics lsps) 0 f))
+    where
+      later : lineRefusal line mics lsps ≡ 0 → ⊥
+      later t =
+          let n : List (ℕ × Bool) = numberChecks mics lsps (micWord line) (lspWord line) (gainWord line) in
+          let f : first n ≡ 11 = rw (eq-eqb (wrongWord line) 0 z) at (sym (behind line mics lsps (lineRefusal line mics lsps) refl t (wrongWord line) refl) ∙ e) in
+          omega (arith, first-other 11 n refl f)
+
+      sooner : (lineRefusal line mics lsps ≡ 0 → ⊥) → ⊥
+      sooner f =
+          let g = early line mics lsps (lineRefusal line mics lsps) refl f ∙ e in
+          true≢false (sym (le-leb (length line) 80 h) ∙ long line mics lsps (lineRefusal line mics lsps) refl f g)
 
   word-is : cueWord line mics lsps ≡ wrongWord line
   unfolding cueWord

@@ -18,7 +18,7 @@ use Rattle.records.proofs.Checking.{Writable, writable}
 use Rattle.records.proofs.Limits.{in-range, earlier-none, earlier-found, earlier-zero}
 use Rattle.records.proofs.Placing.{good-offset}
 use Rattle.records.proofs.Telling.{ruled-at-no, ruled-at-yes}
-use Rattle.records.specs.Record.{recordSize, earlier, listRefusal, newRefusal, labelBytes, fittedBytes}
+use Rattle.records.specs.Record.{recordSize, earlier, listRefusal, faultOffset, newRefusal, labelBytes, fittedBytes}
 use Rattle.records.specs.Told.{refusedAt, tells}
 use Rattle.records.specs.declared.Fault.{Fault}
 use Rattle.desk.proofs.LabelReading.{answered-good, answered-refused}
@@ -37,22 +37,26 @@ module _ (b : List ℕ) (n kind number : ℕ) (name : List ℕ) where
   unfolding addFault addRefusal addOffset
   add-long h = rw (lt-leb n (length b) h)
 
-  module _ (h : n ≤ length b) (a : LabelCount) (e : labelCounted a ≡ readLabelsRule (take n b)) where
+  module _ (h : n ≤ length b) where
     abbrev new : ℕ
     new = newRefusal (take n b) (length b - n) kind number name
 
-    pub add-list : (f : Fault) → a ≡ Uncounted f → f ≡ addFault b n kind number name
+    pub fault-list : (listRefusal (take n b) ≡ 0 → ⊥)
+        → _≡_ {A = Fault} (record { refusal = listRefusal (take n b); offset = faultOffset (take n b) }) (addFault b n kind number name)
     unfolding addFault addRefusal addOffset
-    add-list f q =
-        let g = answered-refused (take n b) a e f q in
-        rw (le-leb n (length b) h, earlier-found (listRefusal (take n b)) new (rw (g .0) at (g .1 .1)), ← (g .0), ← (g .1 .0))
+    fault-list f = rw (le-leb n (length b) h, earlier-found (listRefusal (take n b)) new f)
 
-    pub add-new : (m k : ℕ) → a ≡ Records m → k ≡ newRefusal (take n b) (length b - n) kind number name
-        → _≡_ {A = Fault} (record { refusal = k; offset = length (take n b) }) (addFault b n kind number name)
+    pub fault-new : listRefusal (take n b) ≡ 0 → _≡_ {A = Fault} (record { refusal = new; offset = length (take n b) }) (addFault b n kind number name)
     unfolding addFault addRefusal addOffset
-    add-new m k q f =
-        let g = answered-good (take n b) a e m q in
-        rw (le-leb n (length b) h, earlier-zero (listRefusal (take n b)) new g, good-offset (take n b) g, f)
+    fault-new g = rw (le-leb n (length b) h, earlier-zero (listRefusal (take n b)) new g, good-offset (take n b) g)
+
+    module _ (a : LabelCount) (e : labelCounted a ≡ readLabelsRule (take n b)) where
+      pub add-list : (f : Fault) → a ≡ Uncounted f → f ≡ addFault b n kind number name
+      add-list f q = let g = answered-refused (take n b) a e f q in rw (← (g .0), ← (g .1 .0)) at (fault-list (λ z. g .1 .1 (g .0 ∙ z)))
+
+      pub add-new : (m k : ℕ) → a ≡ Records m → k ≡ newRefusal (take n b) (length b - n) kind number name
+          → _≡_ {A = Fault} (record { refusal = k; offset = length (take n b) }) (addFault b n kind number name)
+      add-new m k q f = rw f (fault-new (answered-good (take n b) a e m q))
 
 pub ruleset refusal-laws = (needs, front-length, add-long, add-list, add-new)
 

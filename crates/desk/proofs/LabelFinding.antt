@@ -66,35 +66,33 @@ pub ruleset place-laws = (needs, name-missing, rest-within, place-fits, name-pla
 pub found-counted : (l : List ℕ) (kind number k : ℕ) → k ≡ recordOf l kind number (records l) → Counted l k
 found-counted l kind number k e = record { most = rw e (record-of-le l kind number (records l)) }
 
-module _ (l : List ℕ) (kind number : ℕ) (a : LabelCount) (c : labelCounted a ≡ readLabelsRule l) where
-  pub find-list : (f : Fault) → a ≡ Uncounted f → refusedAt (f .refusal) (f .offset) ≡ findLabelRule l kind number
+module _ (l : List ℕ) (kind number : ℕ) where
+  -- in a faulty list, in a good one, and what is asked for and refused in a good one
+  pub find-faulty : (listRefusal l ≡ 0 → ⊥) → refusedAt (listRefusal l) (faultOffset l) ≡ findLabelRule l kind number
   unfolding findLabelRule
-  find-list f q =
-      let n = answered-refused l a c f q in
-      let e : f .refusal ≡ earlier (listRefusal l) (keyRefusal kind number) =
-      n .0 ∙ sym (earlier-found (listRefusal l) (keyRefusal kind number) (rw (n .0) at (n .1 .1))) in
-      told-no (f .refusal) _ e (f .offset) (faultOffset l) (nameOf l (recordOf l kind number (records l))) (n .1 .0) (n .1 .1)
+  find-faulty f = told-no (listRefusal l) _ (sym (earlier-found (listRefusal l) (keyRefusal kind number) f)) (faultOffset l) (faultOffset l) _ refl f
 
-  module _ (n j : ℕ) (q : a ≡ Records n) (e : j ≡ keyRefusal kind number) where
-    later : j ≡ earlier (listRefusal l) (keyRefusal kind number)
-    later = e ∙ sym (earlier-zero (listRefusal l) (keyRefusal kind number) (answered-good l a c n q))
+  pub find-good : listRefusal l ≡ 0 → findLabelRule l kind number ≡ told (keyRefusal kind number) (length l) (nameOf l (recordOf l kind number (records l)))
+  unfolding findLabelRule
+  find-good g = rw (earlier-zero (listRefusal l) (keyRefusal kind number) g, good-offset l g)
 
-    pub find-key : (j ≡ 0 → ⊥) → refusedAt j (length l) ≡ findLabelRule l kind number
-    unfolding findLabelRule
-    find-key h = told-no j _ later (length l) (faultOffset l) (nameOf l (recordOf l kind number (records l))) (sym (good-offset l (answered-good l a c n q))) h
+  pub find-asked : listRefusal l ≡ 0 → (keyRefusal kind number ≡ 0 → ⊥) → refusedAt (keyRefusal kind number) (length l) ≡ findLabelRule l kind number
+  find-asked g h = told-no (keyRefusal kind number) _ refl (length l) (length l) _ refl h ∙ sym (find-good g)
 
-    pub find-name : (k : ℕ) (r : Told (Sought (ℕ × ℕ))) → j ≡ 0 → k ≡ recordOf l kind number (records l) → r ≡ tells (nameOf l k) → r ≡ findLabelRule l kind number
-    unfolding findLabelRule
-    find-name k r z f x = x ∙ told-yes j _ later (faultOffset l) (nameOf l k) _ z (ap (nameOf l) f)
+  module _ (a : LabelCount) (c : labelCounted a ≡ readLabelsRule l) where
+    pub find-list : (f : Fault) → a ≡ Uncounted f → refusedAt (f .refusal) (f .offset) ≡ findLabelRule l kind number
+    find-list f q = let n = answered-refused l a c f q in rw (n .0, n .1 .0) (find-faulty (λ z. n .1 .1 (n .0 ∙ z)))
+
+    module _ (n j : ℕ) (q : a ≡ Records n) (e : j ≡ keyRefusal kind number) where
+      pub find-key : (j ≡ 0 → ⊥) → refusedAt j (length l) ≡ findLabelRule l kind number
+      find-key h = rw e (find-asked (answered-good l a c n q) (λ z. h (e ∙ z)))
+
+      pub find-name : (k : ℕ) (r : Told (Sought (ℕ × ℕ))) → j ≡ 0 → k ≡ recordOf l kind number (records l) → r ≡ tells (nameOf l k) → r ≡ findLabelRule l kind number
+      find-name k r z f x = x ∙ told-yes j _ e (length l) (nameOf l k) _ z (ap (nameOf l) f) ∙ sym (find-good (answered-good l a c n q))
 
 pub ruleset find-laws = (needs, found-counted, find-list, find-key, find-name)
 
 -- ---- in a good list
-
-pub find-good : (l : List ℕ) (kind number : ℕ) → listRefusal l ≡ 0
-    → findLabelRule l kind number ≡ told (keyRefusal kind number) (length l) (nameOf l (recordOf l kind number (records l)))
-unfolding findLabelRule
-find-good l kind number g = rw (earlier-zero (listRefusal l) (keyRefusal kind number) g, good-offset l g)
 
 module _ (l : List ℕ) (g : listRefusal l ≡ 0) where
   -- a name lies in its record, and so in the list

@@ -1,5 +1,5 @@
--- The flat answer of a burst: what is carried on, or on a refusal what was given, which is the one other field of a
--- refusal that is not 0. Assumes nothing.
+-- The flat answer of a burst: what is carried on, or on a refusal what was given, where other answers have 0. Assumes
+-- nothing.
 use Rattle.strlib.specs.Refusal.{Outcome, refused, gives}
 use Rattle.bursts.specs.declared.Carried.{Carried}
 use Rattle.flat_finds.specs.declared.runs.FlatBurst.{FlatBurst}

@@ -1,4 +1,6 @@
 // The answers to cue lines, and to an input that comes in pieces.
+#![tactic(auto)]
+
 mod lines;
 mod pieces;
 

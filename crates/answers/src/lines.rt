@@ -11,7 +11,7 @@ use desk::{Cue, CueAnswer};
 
 // How many lines were answered and how many of them are good, how many bytes of an unended line are held, and how many
 // bytes of answers there are.
-#[derive(Drop)]
+#[derive(Clone, Copy)]
 pub struct State {
     pub lines: u64,
     pub ok: u64,

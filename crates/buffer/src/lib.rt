@@ -1,4 +1,6 @@
 // Text that is put together in a lent buffer. What has no room in the buffer is cut off.
+#![tactic(auto)]
+
 ghost use Rattle.std.specs.Prelude.{◌++◌, ◌≡◌};
 ghost use Rattle.number.specs.Written.{digits};
 ghost use Rattle.buffer.specs.Buffer.{grown, value_text};

@@ -1,5 +1,7 @@
 // The run of a search table over a host that comes in bursts: 02, W5. What is carried goes by value, so that a refused
 // burst leaves it as it was.
+#![tactic(auto)]
+
 mod carrying;
 
 ghost use Rattle.std.specs.Prelude.{◌≡◌};
@@ -12,7 +14,7 @@ use table::Walked;
 // What a run carries from burst to burst; unless `noted`, string, pos1 and pos2 say nothing. It crosses the C boundary
 // as it is.
 #[repr(C)]
-#[derive(Drop)]
+#[derive(Clone, Copy)]
 pub struct Carried {
     pub state: usize,
     pub read: usize,
@@ -25,7 +27,7 @@ pub struct Carried {
 }
 
 // What is carried on, which has the answer for all bursts that were taken.
-#[derive(Drop)]
+#[derive(Clone, Copy)]
 pub enum BurstAnswer {
     Carries(Carried),
     Refused(u8),

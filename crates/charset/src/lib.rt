@@ -1,5 +1,7 @@
 // Character sets. Bit b of a character's word says whether the character is in table b; a mask names the tables whose
 // bits it has.
+#![tactic(auto)]
+
 mod find;
 mod tables;
 
@@ -10,20 +12,20 @@ pub use find::{find_first, find_last};
 use strlib::StrPtr;
 pub use tables::{add_characters, clear_tables, fill_tables, remove_characters};
 
-#[derive(Drop)]
+#[derive(Clone, Copy)]
 pub enum SetAnswer {
     Done,
     Refused(u8),
 }
 
 // A host character: its position, counted from 1, and its code.
-#[derive(Drop)]
+#[derive(Clone, Copy)]
 pub struct CharAt {
     pub position: usize,
     pub code: u8,
 }
 
-#[derive(Drop)]
+#[derive(Clone, Copy)]
 pub enum CharAnswer {
     Found(CharAt),
     Nothing,

@@ -1,4 +1,6 @@
 // Comparing two strings of one store, and the order of two texts wherever they lie.
+#![tactic(auto)]
+
 mod numbers;
 mod padded;
 mod pairs;
@@ -14,21 +16,21 @@ pub use padded::padded_order;
 use strlib::StrPtr;
 
 // The answer: whether the code's relation holds, the sign of length 1 − length 2, and the split.
-#[derive(Drop)]
+#[derive(Clone, Copy)]
 pub struct Comparison {
     pub yes: bool,
     pub sign: i8,
     pub split: usize,
 }
 
-#[derive(Drop)]
+#[derive(Clone, Copy)]
 pub enum Compared {
     Answer(Comparison),
     Refused(u8),
 }
 
 // What decides, whatever the code: the order of the two texts, and the split.
-#[derive(Drop)]
+#[derive(Clone, Copy)]
 struct Decision {
     pub order: usize,
     pub split: usize,

@@ -1,4 +1,6 @@
 // What a program of the desk says on standard error of a run that is not complete.
+#![tactic(auto)]
+
 ghost use Rattle.std.specs.Prelude.{◌++◌, ◌≡◌, map};
 ghost use Rattle.strlib.specs.Quoted.{bytes};
 ghost use Rattle.buffer.specs.Buffer.{grown};

@@ -1,4 +1,6 @@
 // Bounded copying: copy and append.
+#![tactic(auto)]
+
 use strlib::StrPtr;
 
 mod copies;
@@ -10,13 +12,13 @@ ghost use Rattle.copying.specs.Copying.{gap, finished};
 pub use copies::{append, copy};
 
 // What a bounded copy gives: the destination with its new length, and whether nothing was cut.
-#[derive(Drop)]
+#[derive(Clone, Copy)]
 pub struct Wrote {
     pub to: StrPtr,
     pub completed: bool,
 }
 
-#[derive(Drop)]
+#[derive(Clone, Copy)]
 pub enum CopyAnswer {
     Given(Wrote),
     Refused(u8),

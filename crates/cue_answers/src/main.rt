@@ -1,5 +1,7 @@
 // Reads cue lines for a matrix of 64 by 128 from a file or from standard input, and writes an answer to each, and the
 // total.
+#![tactic(auto)]
+
 ghost use Rattle.std.specs.Prelude.{length};
 ghost use Rattle.cue_answers.specs.Loop.{Room, Tried, Turned, AllTurns, Answering, OfFile};
 

@@ -1,4 +1,6 @@
 // Cutting, on string pointers and on plain slices.
+#![tactic(auto)]
+
 mod bounds;
 mod parts;
 
@@ -16,7 +18,7 @@ pub use parts::{
 use strlib::{StrAnswer, StrPtr};
 
 // The four cuts of document 01, with their numbers: an offset; a position and a count; two positions; none.
-#[derive(Drop)]
+#[derive(Clone, Copy)]
 pub enum Cut {
     Relative(usize),
     Counted(usize, usize),

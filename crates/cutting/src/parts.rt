@@ -58,7 +58,7 @@ pub fn trimmed_part(bytes: &[u8]) -> &[u8]
 }
 
 // Where the label shown on the desk lies: in the house name, or in the production name.
-#[derive(Drop)]
+#[derive(Clone, Copy)]
 pub struct DeskLabel {
     pub house: bool,
     pub place: StrPtr,

@@ -10,7 +10,7 @@ use number::NumberAnswer;
 use strlib::StrPtr;
 
 // What microphone goes to what loudspeaker, and how loud, in tenths of a decibel.
-#[derive(Drop)]
+#[derive(Clone, Copy)]
 pub struct Cue {
     pub microphone: usize,
     pub loudspeaker: usize,
@@ -19,13 +19,13 @@ pub struct Cue {
 
 // What a line is refused with: the number, and with 11 a word: 0 for a line that is too long, else the first wrong or
 // missing fixed word or missing number, from 1, else 8 for an eighth word. With every other number the word is 0.
-#[derive(Drop)]
+#[derive(Clone, Copy)]
 pub struct CueFault {
     pub refusal: u8,
     pub word: u8,
 }
 
-#[derive(Drop)]
+#[derive(Clone, Copy)]
 pub enum CueAnswer {
     Cue(Cue),
     Refused(CueFault),

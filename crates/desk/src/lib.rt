@@ -1,4 +1,6 @@
 // The desk: cue lines and the label list. It stands above the string library and sees only its promises.
+#![tactic(auto)]
+
 mod cue;
 mod label;
 

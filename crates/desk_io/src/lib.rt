@@ -1,4 +1,6 @@
 // Reading and writing for the desk's programs. A call that a signal interrupted is made again.
+#![tactic(auto)]
+
 ghost use Rattle.std.specs.Prelude.{true, ◌≡◌, ◌≤◌, length};
 ghost use Rattle.libc.specs.Io.{Moved};
 

@@ -1,4 +1,6 @@
 // Changing a string where it stands: replace, and reverse.
+#![tactic(auto)]
+
 mod replacement;
 mod reversal;
 

@@ -1,11 +1,13 @@
 // What a program of the desk was asked to read, and how its run ended.
+#![tactic(auto)]
+
 ghost use Rattle.std.specs.Prelude.{◌≡◌};
 ghost use Rattle.endings.specs.Ending.{is_going, after_write, source_of};
 
 // How a run stands: it goes on, it came to its input's end, or why it did not: it was called wrongly, its input could
 // not be opened or not be read, or its output could not be written. A total that could not be written makes it
 // unwritten too.
-#[derive(Drop)]
+#[derive(Clone, Copy)]
 pub enum Ending {
     Going,
     Complete,
@@ -16,7 +18,7 @@ pub enum Ending {
 }
 
 // What a program reads.
-#[derive(Drop)]
+#[derive(Clone, Copy)]
 pub enum Source {
     Input,
     File,

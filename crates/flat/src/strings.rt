@@ -11,14 +11,14 @@ use joining::{Place, RoundAnswer};
 use strlib::{StrAnswer, StrPtr};
 
 #[repr(C)]
-#[derive(Drop)]
+#[derive(Clone, Copy)]
 pub struct FlatString {
     pub refusal: u8,
     pub string: StrPtr,
 }
 
 #[repr(C)]
-#[derive(Drop)]
+#[derive(Clone, Copy)]
 pub struct FlatCopied {
     pub refusal: u8,
     pub completed: bool,
@@ -26,7 +26,7 @@ pub struct FlatCopied {
 }
 
 #[repr(C)]
-#[derive(Drop)]
+#[derive(Clone, Copy)]
 pub struct FlatRound {
     pub refusal: u8,
     pub completed: bool,
@@ -36,7 +36,7 @@ pub struct FlatRound {
 
 // Where a part of lent bytes begins, and its length.
 #[repr(C)]
-#[derive(Drop)]
+#[derive(Clone, Copy)]
 pub struct FlatPart {
     pub offset: usize,
     pub length: usize,
@@ -44,7 +44,7 @@ pub struct FlatPart {
 
 // A part of the house name, or else of the production name.
 #[repr(C)]
-#[derive(Drop)]
+#[derive(Clone, Copy)]
 pub struct FlatLabel {
     pub house: bool,
     pub offset: usize,

@@ -17,7 +17,7 @@ use records::Fault;
 use translator::TranslateAnswer;
 
 #[repr(C)]
-#[derive(Drop)]
+#[derive(Clone, Copy)]
 pub struct FlatComparison {
     pub refusal: u8,
     pub yes: bool,
@@ -26,14 +26,14 @@ pub struct FlatComparison {
 }
 
 #[repr(C)]
-#[derive(Drop)]
+#[derive(Clone, Copy)]
 pub struct FlatNumber {
     pub refusal: u8,
     pub value: i64,
 }
 
 #[repr(C)]
-#[derive(Drop)]
+#[derive(Clone, Copy)]
 pub struct FlatCue {
     pub refusal: u8,
     pub word: u8,
@@ -43,7 +43,7 @@ pub struct FlatCue {
 }
 
 #[repr(C)]
-#[derive(Drop)]
+#[derive(Clone, Copy)]
 pub struct FlatSize {
     pub refusal: u8,
     pub offset: usize,

@@ -15,7 +15,7 @@ use strlib::StrPtr;
 use table::RunAnswer;
 
 #[repr(C)]
-#[derive(Drop)]
+#[derive(Clone, Copy)]
 pub struct FlatMatch {
     pub refusal: u8,
     pub found: bool,
@@ -26,7 +26,7 @@ pub struct FlatMatch {
 }
 
 #[repr(C)]
-#[derive(Drop)]
+#[derive(Clone, Copy)]
 pub struct FlatSplit {
     pub refusal: u8,
     pub found: bool,
@@ -36,7 +36,7 @@ pub struct FlatSplit {
 }
 
 #[repr(C)]
-#[derive(Drop)]
+#[derive(Clone, Copy)]
 pub struct FlatNote {
     pub refusal: u8,
     pub found: bool,
@@ -47,7 +47,7 @@ pub struct FlatNote {
 }
 
 #[repr(C)]
-#[derive(Drop)]
+#[derive(Clone, Copy)]
 pub struct FlatCharacter {
     pub refusal: u8,
     pub found: bool,
@@ -56,7 +56,7 @@ pub struct FlatCharacter {
 }
 
 #[repr(C)]
-#[derive(Drop)]
+#[derive(Clone, Copy)]
 pub struct FlatName {
     pub refusal: u8,
     pub found: bool,

@@ -6,7 +6,7 @@ ghost use Rattle.flat_finds.specs.Runs.{flat_burst};
 use bursts::{BurstAnswer, Carried};
 
 #[repr(C)]
-#[derive(Drop)]
+#[derive(Clone, Copy)]
 pub struct FlatBurst {
     pub refusal: u8,
     pub carried: Carried,

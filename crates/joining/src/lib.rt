@@ -1,4 +1,6 @@
 // Join of a list, and the checkpointed join: above copying, which pads and gives the answer.
+#![tactic(auto)]
+
 use strlib::{StrList, StrPtr};
 
 mod joins;
@@ -15,21 +17,21 @@ pub use rounds::join_from;
 
 // A resume place: a string of the list and a character in it, both from 1. It crosses the C boundary as it is.
 #[repr(C)]
-#[derive(Drop)]
+#[derive(Clone, Copy)]
 pub struct Place {
     pub string: usize,
     pub character: usize,
 }
 
 // What a checkpointed join gives, with the place at which the next round resumes.
-#[derive(Drop)]
+#[derive(Clone, Copy)]
 pub struct Round {
     pub to: StrPtr,
     pub completed: bool,
     pub next: Place,
 }
 
-#[derive(Drop)]
+#[derive(Clone, Copy)]
 pub enum RoundAnswer {
     Given(Round),
     Refused(u8),

@@ -3,6 +3,8 @@
 //
 // Out of document 01's scope, and so left out: alnstr (3.2), cmbstr's numeric mode and copchr (5.2), which are about
 // words and bytes of other sizes.
+#![tactic(auto)]
+
 mod copies;
 
 fn main() {

@@ -9,6 +9,8 @@
 // from the lengths that it states.
 //
 // Out of document 01's scope, and so left out: the lengths of literals (3.5).
+#![tactic(auto)]
+
 mod comparing;
 mod replacing;
 mod substrings;

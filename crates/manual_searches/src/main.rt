@@ -5,6 +5,8 @@
 // Out of document 01's scope, and so left out: mapstr (5.5), and fndstr's anchor for strings of more than one character
 // (5.3), of which the manual has no example. cnvstr's filling with blanks or zeros is no part of document 01's writing,
 // and the lines say so.
+#![tactic(auto)]
+
 mod cuts;
 mod numbers;
 mod searching;

@@ -1,4 +1,6 @@
 // What writes bytes within a store. Every call takes any numbers; outside the store it writes nothing.
+#![tactic(auto)]
+
 mod blanks;
 mod bytes;
 mod moves;

@@ -1,4 +1,6 @@
 // Numbers in base 2 to 10, read from a string and written into one.
+#![tactic(auto)]
+
 mod limits;
 mod reader;
 mod writer;
@@ -7,7 +9,7 @@ pub use reader::read;
 pub use writer::write;
 
 // The answer of a reading.
-#[derive(Drop)]
+#[derive(Clone, Copy)]
 pub enum NumberAnswer {
     Given(i64),
     Refused(u8),

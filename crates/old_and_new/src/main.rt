@@ -6,6 +6,8 @@
 // bytes, where the length and the store allow it; and from one end of the store to the other. Each goes towards the
 // front and towards the back, at the store's front and at its end. Behind the lengths about eight, 64 and 128 stand some
 // long ones.
+#![tactic(auto)]
+
 mod old;
 
 use saying::{say, say_number};
@@ -21,7 +23,7 @@ const LENGTHS: [usize; 33] = [
 const DISTANCES: [usize; 16] = [0, 1, 2, 3, 4, 5, 6, 7, 8, 9, 63, 64, 65, 1023, 1024, 1025];
 
 // Of all moves so far: whether old and new left the same bytes, whether new changed none, and a sum.
-#[derive(Drop)]
+#[derive(Clone, Copy)]
 struct Seen {
     alike: bool,
     still: bool,

@@ -1,5 +1,7 @@
 // The refusals and choices of a translation, each for any input: what refuses it, how many characters its list has, how
 // many strings count in a row, and what the row's default is: 01, "The search table".
+#![tactic(auto)]
+
 ghost use Rattle.std.specs.Prelude.{◌≡◌};
 ghost use Rattle.states.specs.Fill.{limit, if_open, root_to};
 ghost use Rattle.preparing.specs.Listed.{translate_refusal, total_of};

@@ -1,5 +1,7 @@
 // The records of a label list, each a kind, a number and a name. Every call takes any bytes and any numbers; behind the
 // end of a list bytes count as 0.
+#![tactic(auto)]
+
 mod front;
 mod kinds;
 mod lists;
@@ -12,7 +14,7 @@ pub use news::{new_refusal, write_record};
 
 // What a call on a label list is refused with: the number, and the offset of the faulty record's kind byte, or the
 // list's length where no record in it is at fault.
-#[derive(Drop)]
+#[derive(Clone, Copy)]
 pub struct Fault {
     pub refusal: u8,
     pub offset: usize,

@@ -1,4 +1,6 @@
 // How the programs of examples write an answer.
+#![tactic(auto)]
+
 use strlib::{StrAnswer, StrPtr};
 
 pub fn say(text: &[u8]) {

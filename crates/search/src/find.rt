@@ -9,14 +9,14 @@ ghost use Rattle.search.specs.Rule.{search_refusal, sought};
 use strlib::{StrList, StrPtr};
 
 // String `number` of the list stands from pos1 to pos2; number 0 for none.
-#[derive(Drop)]
+#[derive(Clone, Copy)]
 pub struct Spot {
     pub number: usize,
     pub pos1: usize,
     pub pos2: usize,
 }
 
-#[derive(Drop)]
+#[derive(Clone, Copy)]
 pub enum Finding {
     Found(Spot),
     Nothing,

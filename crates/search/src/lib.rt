@@ -1,5 +1,7 @@
 // Plain parallel search: the earliest position at which a listed string occurs, and of those that occur there the first
 // listed.
+#![tactic(auto)]
+
 mod find;
 
 ghost use Rattle.std.specs.Prelude.{◌≡◌, ◌+◌, ◌≤◌};
@@ -11,7 +13,7 @@ use find::Finding;
 use strlib::{StrList, StrPtr};
 
 // String `number` of the list was found: what lies before it, the match, and what lies after it.
-#[derive(Drop)]
+#[derive(Clone, Copy)]
 pub struct Match {
     pub number: usize,
     pub before: StrPtr,
@@ -19,7 +21,7 @@ pub struct Match {
     pub after: StrPtr,
 }
 
-#[derive(Drop)]
+#[derive(Clone, Copy)]
 pub enum SearchAnswer {
     Found(Match),
     Nothing,
@@ -27,14 +29,14 @@ pub enum SearchAnswer {
 }
 
 // The same with the host cut in two: before, and match with after; or before with match, and after.
-#[derive(Drop)]
+#[derive(Clone, Copy)]
 pub struct Split {
     pub number: usize,
     pub front: StrPtr,
     pub back: StrPtr,
 }
 
-#[derive(Drop)]
+#[derive(Clone, Copy)]
 pub enum SplitAnswer {
     Found(Split),
     Nothing,

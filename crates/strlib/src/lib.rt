@@ -1,4 +1,6 @@
 // The ground of the string library: string pointers, their limits, and the checks that every call makes.
+#![tactic(auto)]
+
 mod checks;
 mod lists;
 mod strings;
@@ -15,7 +17,7 @@ pub use strings::{are_characters, is_clear, is_within, text};
 // A string pointer of document 01: where a string starts in its store, its length, and the maximum that its room takes.
 // It crosses the C boundary as it is.
 #[repr(C)]
-#[derive(Drop)]
+#[derive(Clone, Copy)]
 pub struct StrPtr {
     pub start: usize,
     pub length: usize,
@@ -26,7 +28,7 @@ pub struct StrPtr {
 pub type StrList = [StrPtr; StrPtr::LIST_MAX];
 
 // The answer of a call that gives a string pointer and nothing more.
-#[derive(Drop)]
+#[derive(Clone, Copy)]
 pub enum StrAnswer {
     Given(StrPtr),
     Refused(u8),

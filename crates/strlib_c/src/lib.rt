@@ -1,5 +1,7 @@
 // The calls of include/strlib.h, each the call of the library that its name says, with its answer made flat. Arguments
 // come in the header's order.
+#![tactic(auto)]
+
 mod comparing;
 mod copies;
 mod cuts;

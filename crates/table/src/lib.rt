@@ -1,4 +1,6 @@
 // The run of a search table: 01, "The search table". Any words and any bytes; a word is looked at only when it is met.
+#![tactic(auto)]
+
 mod onward;
 mod runs;
 
@@ -10,7 +12,7 @@ ghost use Rattle.table.specs.Inner.{note_of, rests_of, walked_of, Entered};
 pub use onward::resume;
 pub use runs::run;
 
-#[derive(Drop)]
+#[derive(Clone, Copy)]
 pub struct Note {
     pub string: usize,
     pub pos1: usize,
@@ -19,7 +21,7 @@ pub struct Note {
 
 // Where a run rests: the state that it has entered (0: it stopped), the number read, the last note (string 0: none). An
 // enum for the note would be copied from step to step, its unused bytes too.
-#[derive(Drop)]
+#[derive(Clone, Copy)]
 pub struct Progress {
     pub state: usize,
     pub read: usize,
@@ -27,14 +29,14 @@ pub struct Progress {
 }
 
 // Where a run rests, or that it met words that are no table.
-#[derive(Drop)]
+#[derive(Clone, Copy)]
 pub enum Walked {
     Rests(Progress),
     Bad,
 }
 
 // The last note or nothing found, and the number read.
-#[derive(Drop)]
+#[derive(Clone, Copy)]
 pub enum RunAnswer {
     Found(Note, usize),
     Nothing(usize),

@@ -2,6 +2,8 @@
 // run over the host and over the host without its first character. A line says what the table's run gives, and whether
 // the plain search gives the same. Where a line says less read than the host has, nothing that followed could change
 // the answer (02, W12).
+#![tactic(auto)]
+
 ghost use Rattle.std.specs.Prelude.{length};
 ghost use Rattle.table_examples.specs.Two.{two_answered, SearchedTwo};
 
@@ -12,7 +14,7 @@ use table::{Note, RunAnswer};
 use translator::TranslateAnswer;
 
 // What was found in two hosts, or the translator's refusal.
-#[derive(Drop)]
+#[derive(Clone, Copy)]
 enum TwoAnswer {
     Ran(RunAnswer, RunAnswer),
     Refused(u8),

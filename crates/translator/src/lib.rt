@@ -1,5 +1,7 @@
 // Translating a list of strings into a search table: 01, "The search table". The rows of the states are filled by the
 // lengths of their texts, each beginning as a copy of a shorter text's row.
+#![tactic(auto)]
+
 mod alike;
 mod levels;
 
@@ -16,7 +18,7 @@ pub use levels::translate;
 use strlib::StrList;
 use table::{LENGTH_WORD, STATE_WORDS, STRING_WORD};
 
-#[derive(Drop)]
+#[derive(Clone, Copy)]
 pub enum TranslateAnswer {
     Done,
     Refused(u8),

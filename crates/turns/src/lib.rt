@@ -1,5 +1,7 @@
 // A run of the program, turn by turn: what a read answered is taken in here, and so is whether a write took all its
 // bytes.
+#![tactic(auto)]
+
 ghost use Rattle.std.specs.Prelude.{◌≡◌};
 ghost use Rattle.turns.specs.Turn.{stage, telling, after_read, wrote, begun};
 
@@ -8,7 +10,7 @@ use endings::Ending;
 use strlib::StrPtr;
 
 // The state, and how the run stands.
-#[derive(Drop)]
+#[derive(Clone, Copy)]
 pub struct Run {
     pub state: State,
     pub ending: Ending,

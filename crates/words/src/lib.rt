@@ -1,5 +1,7 @@
 // Words parted by blanks and lines ended by byte 10, in a plain text. Each function takes any place, also one past the
 // text's end.
+#![tactic(auto)]
+
 ghost use Rattle.std.specs.Prelude.{◌≡◌};
 ghost use Rattle.words.specs.Lines.{next_line};
 ghost use Rattle.words.specs.Words.{same, pointer_of, next_word};
@@ -11,7 +13,7 @@ use strlib::StrPtr;
 const LINE_END: u8 = 10;
 
 // A word or a line: the bytes from one place up to another, and the place from which the next one is sought.
-#[derive(Drop)]
+#[derive(Clone, Copy)]
 pub struct Piece {
     pub from: usize,
     pub to: usize,

@@ -8,7 +8,7 @@ use super::read::LabelCount;
 use records::Fault;
 
 // The answer of the writer: the list's new length.
-#[derive(Drop)]
+#[derive(Clone, Copy)]
 pub enum LabelAdded {
     Added(usize),
     Refused(Fault),

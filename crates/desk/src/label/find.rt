@@ -10,7 +10,7 @@ use super::read::LabelCount;
 use records::Fault;
 
 // The answer of a lookup: where the trimmed name lies in the list.
-#[derive(Drop)]
+#[derive(Clone, Copy)]
 pub enum LabelPlace {
     Found { place: usize, length: usize },
     Missing,

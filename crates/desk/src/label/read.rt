@@ -11,7 +11,7 @@ const ROW: usize = records::LOUDSPEAKERS_MAX + 1;
 const MARKS: usize = 3 * ROW;
 
 // The answer of the reader: how many records a good list has.
-#[derive(Drop)]
+#[derive(Clone, Copy)]
 pub enum LabelCount {
     Records(usize),
     Refused(Fault),

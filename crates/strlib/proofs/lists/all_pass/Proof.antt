@@ -7,10 +7,10 @@ use Rattle.strlib.proofs.Listing.{all_laws}
 use Rattle.strlib.proofs.lists.all_pass.Statement.{statement}
 use Rattle.strlib.proofs.lists.all_pass.Tie as tie
 
-abbrev invariant-loop : tie.invariant-loop
+abbrev invariant-loop : tie.invariant-loop-i
 invariant-loop number store room count list i₀ i = (length list ≡ 32) × (all (passes number store room) (take count list) ≡ all (passes number store room) (drop i (take count list)))
 
-abbrev decreases-loop : tie.decreases-loop
+abbrev decreases-loop : tie.decreases-loop-i
 decreases-loop number store room count list i₀ i = count - i
 
 pub all_pass_spec : {M : Type 1} → statement M

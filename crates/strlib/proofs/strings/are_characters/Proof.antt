@@ -6,10 +6,10 @@ use Rattle.strlib.proofs.Pointing.{characters_with, text_laws}
 use Rattle.strlib.proofs.strings.are_characters.Statement.{statement}
 use Rattle.strlib.proofs.strings.are_characters.Tie as tie
 
-abbrev invariant-loop : tie.invariant-loop
+abbrev invariant-loop : tie.invariant-loop-i
 invariant-loop bytes greatest₀ i₀ greatest i = (i ≤ length bytes) × (characters bytes ≡ characters_with greatest (drop i bytes))
 
-abbrev decreases-loop : tie.decreases-loop
+abbrev decreases-loop : tie.decreases-loop-i
 decreases-loop bytes greatest₀ i₀ greatest i = length bytes - i
 
 pub are_characters_spec : {M : Type 1} → statement M

@@ -9,7 +9,7 @@ unfolding order_z
 returns c =
     let s = c.before.before in
     simp (
-      c.pick2.ensures,
+      c.pick-2.ensures,
       c.before.pick.ensures,
       sum_read s.args.y s.args.t s.ranges.y s.ranges.t,
       to_z-of_z (sum_small s.args.y s.args.t s.ranges.y s.ranges.t s.requires),

@@ -6,10 +6,10 @@ use Rattle.words.proofs.Likening.{common_laws}
 use Rattle.words.proofs.alike.Statement.{statement}
 use Rattle.words.proofs.alike.Tie as tie
 
-abbrev invariant-loop : tie.invariant-loop
+abbrev invariant-loop : tie.invariant-loop-i
 invariant-loop a b i₀ i = common a b ≡ i + common (drop i a) (drop i b)
 
-abbrev decreases-loop : tie.decreases-loop
+abbrev decreases-loop : tie.decreases-loop-i
 decreases-loop a b i₀ i = length a - i
 
 pub alike_spec : {M : Type 1} → statement M

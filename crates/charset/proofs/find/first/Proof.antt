@@ -7,10 +7,10 @@ use Rattle.charset.proofs.Choosing.{first_laws}
 use Rattle.charset.proofs.find.first.Statement.{statement}
 use Rattle.charset.proofs.find.first.Tie as tie
 
-abbrev invariant-loop : tie.invariant-loop
+abbrev invariant-loop : tie.invariant-loop-i
 invariant-loop text block mask i₀ i = (i ≤ length text) × (found_from false block mask 1 text ≡ found_from false block mask (i + 1) (drop i text))
 
-abbrev decreases-loop : tie.decreases-loop
+abbrev decreases-loop : tie.decreases-loop-i
 decreases-loop text block mask i₀ i = length text - i
 
 pub first_spec : {M : Type 1} → statement M

@@ -5,10 +5,10 @@ use Rattle.charset.proofs.Turning.{Turned, turn_laws}
 use Rattle.charset.proofs.tables.turn_all.Statement.{statement}
 use Rattle.charset.proofs.tables.turn_all.Tie as tie
 
-abbrev invariant-loop : tie.invariant-loop
+abbrev invariant-loop : tie.invariant-loop-i
 invariant-loop on mask block₀ i₀ block i = (i ≤ length block₀) × (length block ≡ length block₀) × Turned on mask block₀ block i
 
-abbrev decreases-loop : tie.decreases-loop
+abbrev decreases-loop : tie.decreases-loop-i
 decreases-loop on mask block₀ i₀ block i = length block₀ - i
 
 pub turn_all_spec : {M : Type 1} → statement M

@@ -6,10 +6,10 @@ use Rattle.charset.proofs.Turning.{turn_laws}
 use Rattle.charset.proofs.tables.turn_at.Statement.{statement}
 use Rattle.charset.proofs.tables.turn_at.Tie as tie
 
-abbrev invariant-loop : tie.invariant-loop
+abbrev invariant-loop : tie.invariant-loop-i
 invariant-loop on mask text block₀ i₀ block i = (i ≤ length text) × (length block ≡ 128) × (turned_at on mask text block₀ ≡ turned_at on mask (drop i text) block)
 
-abbrev decreases-loop : tie.decreases-loop
+abbrev decreases-loop : tie.decreases-loop-i
 decreases-loop on mask text block₀ i₀ block i = length text - i
 
 pub turn_at_spec : {M : Type 1} → statement M

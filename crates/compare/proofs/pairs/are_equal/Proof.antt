@@ -11,25 +11,25 @@ use Rattle.compare.proofs.pairs.are_equal.Statement.{statement}
 use Rattle.compare.proofs.pairs.are_equal.Tie as tie
 
 -- all pairs are equal exactly where those looked at and those left are
-abbrev invariant-loop : tie.invariant-loop
+abbrev invariant-loop : tie.invariant-loop-i
 invariant-loop x y raised equal₀ i₀ equal i =
     (i ≤ length x)
     × (eqb (unequal_from x y (sub_ℕ raised 128) 0 (length x)) (length x) ≡ (equal && eqb (unequal_from x y (sub_ℕ raised 128) i (length x - i)) (length x)))
 
-abbrev decreases-loop : tie.decreases-loop
+abbrev decreases-loop : tie.decreases-loop-i
 decreases-loop x y raised equal₀ i₀ equal i = length x - i
 
-are_characters : tie.Need-is-equal-requires invariant-loop decreases-loop
+are_characters : tie.Need-is_equal-requires invariant-loop decreases-loop
 are_characters c κs =
-    let pair = c.before.before.before.before.before.before.requires in
-    let i = c.before.before.before.loop.i in
+    let pair = c.requires in
+    let i = c.loop-i.i in
     (pair.character_1 i (search rules), pair.character_2 i (search rules))
 
-again : tie.Need-loop-preserved invariant-loop decreases-loop
+again : tie.Need-loop-i-preserved invariant-loop decreases-loop
 again c =
-    let loop = c.before.before.before.before.before.loop in
-    let pair = c.before.before.before.before.before.before.before.before.requires in
-    (search rules, block_step _ _ _ loop.i _ loop.equal loop.invariant.1 pair (search rules) _ _ c.before.is_equal.ensures c.both.ensures)
+    let loop = c.loop-i in
+    let pair = c.requires in
+    (search rules, block_step _ _ _ loop.i _ loop.equal loop.invariant.1 pair (search rules) _ _ c.is_equal.ensures c.both-equal.ensures)
 
 pub are_equal_spec : {M : Type 1} → statement M
 are_equal_spec =

@@ -9,7 +9,7 @@ blanks_end_spec =
     (tie.spec
     (λ c. search tailing_laws)
     (λ c. search rules)
-    (λ c. let a = c.before.before.before.before.args in blanks_no a.z.now a.i (search rules) (λ e. search rules))
+    (λ c. let a = c.args in blanks_no a.z.now a.i (search rules) (λ e. search rules))
     (λ c. search rules)
     (λ c. search rules)
     (λ c. search rules)

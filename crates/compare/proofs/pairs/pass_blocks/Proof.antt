@@ -7,29 +7,29 @@ use Rattle.compare.proofs.Pairing.{cut_paired, block_passed, block_stopped, none
 use Rattle.compare.proofs.pairs.pass_blocks.Statement.{statement}
 use Rattle.compare.proofs.pairs.pass_blocks.Tie as tie
 
-abbrev invariant-loop : tie.invariant-loop
+abbrev invariant-loop : tie.invariant-loop-i
 invariant-loop x y raised n from width i₀ i = (i ≤ n) × (i ≤ unequal_from x y (sub_ℕ raised 128) 0 n)
 
-abbrev decreases-loop : tie.decreases-loop
+abbrev decreases-loop : tie.decreases-loop-i
 decreases-loop x y raised n from width i₀ i = n - i
 
-cuts : tie.Need-are-equal-requires invariant-loop decreases-loop
+cuts : tie.Need-are_equal-requires invariant-loop decreases-loop
 cuts c κs =
-    let start = c.before.before.before.before.before.before in
-    let loop = c.before.before.before.loop in
+    let start = c in
+    let loop = c.loop-i in
     cut_paired _ _ _ _ loop.i _ start.requires.0 loop.invariant.1 (search rules)
 
-stops : tie.Need-returns invariant-loop decreases-loop
+stops : tie.Need-returns-then-not-are_equal invariant-loop decreases-loop
 stops c =
-    let start = c.before.before.before.before.before.before.before.before in
-    let loop = c.before.before.before.before.before.loop in
-    (loop.invariant.1, block_stopped _ _ _ _ loop.i _ start.requires.0 loop.invariant.1 (search rules) _ c.before.are_equal.ensures (not-true _ c.if1.true))
+    let start = c in
+    let loop = c.loop-i in
+    (loop.invariant.1, block_stopped _ _ _ _ loop.i _ start.requires.0 loop.invariant.1 (search rules) _ c.are_equal.ensures c.if-not-are_equal.true)
 
-passes : tie.Need-loop-preserved invariant-loop decreases-loop
+passes : tie.Need-loop-i-preserved invariant-loop decreases-loop
 passes c =
-    let start = c.before.before.before.before.before.before.before.before in
-    let loop = c.before.before.before.before.before.loop in
-    (search rules, block_passed _ _ _ _ loop.i _ start.requires.0 loop.invariant.1 (search rules) _ c.before.are_equal.ensures (not-false _ c.if1.false))
+    let start = c in
+    let loop = c.loop-i in
+    (search rules, block_passed _ _ _ _ loop.i _ start.requires.0 loop.invariant.1 (search rules) _ c.are_equal.ensures c.if-not-are_equal.false)
 
 pub pass_blocks_spec : {M : Type 1} → statement M
 pass_blocks_spec =

@@ -6,10 +6,10 @@ use Rattle.cutting.proofs.Bounding.{trim_laws}
 use Rattle.cutting.proofs.bounds.trimmed_length.Statement.{statement}
 use Rattle.cutting.proofs.bounds.trimmed_length.Tie as tie
 
-abbrev invariant-loop : tie.invariant-loop
+abbrev invariant-loop : tie.invariant-loop-n
 invariant-loop bytes n₀ n = (n ≤ length bytes) × (trimmed_length bytes ≡ trimmed_length (take n bytes))
 
-abbrev decreases-loop : tie.decreases-loop
+abbrev decreases-loop : tie.decreases-loop-n
 decreases-loop bytes n₀ n = n
 
 pub trimmed_length_spec : {M : Type 1} → statement M

@@ -3,11 +3,11 @@ use Rattle.moving.proofs.Writing.{write_laws}
 use Rattle.moving.proofs.blanks.fill_blanks.Statement.{statement}
 use Rattle.moving.proofs.blanks.fill_blanks.Tie as tie
 
-returns : tie.Need-returns
+returns : tie.Need-returns-then-is_within
 unfolding blanked
 returns c = search write_laws
 
-returns_2 : tie.Need-returns-2
+returns_2 : tie.Need-returns-else-is_within
 unfolding blanked
 returns_2 c = search write_laws
 

@@ -11,11 +11,11 @@ move_characters_spec =
     (λ c κs. tt)
     (λ c κs. tt)
     (λ c κs. tt)
-    (λ c κs. (search (rules, within_so), search (rules, goes_up _ _ _ _ _ c.before.before.before.before.before.before.is_within.ensures (search rules) _ c.before.before.wrapping-sub-usize.ensures)))
+    (λ c κs. (search (rules, within_so), search (rules, goes_up _ _ _ _ _ c.is_within.ensures (search rules) _ c.wrapping_sub_usize.ensures)))
     (λ c κs. (
-      within_so _ _ _ _ c.before.before.before.before.before.before.is_within.ensures (search rules),
+      within_so _ _ _ _ c.is_within.ensures (search rules),
       search (rules, within_so),
-      search (rules, goes_down _ _ _ _ _ c.before.before.before.before.before.before.is_within.ensures (search rules) _ c.before.before.wrapping-sub-usize.ensures),
+      search (rules, goes_down _ _ _ _ _ c.is_within.ensures (search rules) _ c.wrapping_sub_usize.ensures),
     ))
     (λ c. search rules)
     (λ c. search (rules, within_so, moved_done))

@@ -8,10 +8,10 @@ use Rattle.number.proofs.Reading.{digits_laws}
 use Rattle.number.proofs.reader.read_digits.Statement.{statement}
 use Rattle.number.proofs.reader.read_digits.Tie as tie
 
-abbrev invariant-loop : tie.invariant-loop
+abbrev invariant-loop : tie.invariant-loop-i
 invariant-loop negative digits base v₀ i₀ v i = (i ≤ length digits) × (v ≤ 68719476736) × (reads (all (is_digit base) (drop i digits)) (signed negative (value base v (drop i digits))) ≡ reads (are_digits base digits) (signed negative (value base 0 digits)))
 
-abbrev decreases-loop : tie.decreases-loop
+abbrev decreases-loop : tie.decreases-loop-i
 decreases-loop negative digits base v₀ i₀ v i = length digits - i
 
 pub read_digits_spec : {M : Type 1} → statement M

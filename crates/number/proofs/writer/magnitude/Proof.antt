@@ -6,8 +6,8 @@ pub magnitude_spec : {M : Type 1} → statement M
 magnitude_spec =
     tie.close
     (tie.spec
-    (λ c. turned_fits _ c.before.ranges.value c.before.requires)
-    (λ c. turned_cast _ c.before.ranges.value c.before.requires c.if1.true)
-    (λ c. plain_cast _ c.before.ranges.value c.before.requires c.if1.false)
-    (λ c. turned_abs _ c.before.ranges.value c.before.requires)
-    (λ c. plain_abs _ c.before.ranges.value c.before.requires))
+    (λ c. turned_fits _ c.ranges.value c.requires)
+    (λ c. turned_cast _ c.ranges.value c.requires c.if-value-lt0.true)
+    (λ c. plain_cast _ c.ranges.value c.requires c.if-value-lt0.false)
+    (λ c. turned_abs _ c.ranges.value c.requires)
+    (λ c. plain_abs _ c.ranges.value c.requires))

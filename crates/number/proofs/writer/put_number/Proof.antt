@@ -14,7 +14,7 @@ put_number_spec =
     (λ c. search text_laws)
     (λ c κs. search text_laws)
     (λ c κs. search text_laws)
-    (λ c. c.before.before.put_digits.auto.0 ∙ simp length-set)
+    (λ c. c.put_digits.auto.store ∙ simp length-set)
     (λ c. search text_laws)
     (λ c. search text_laws)
     (λ c. search text_laws))

@@ -1,17 +1,17 @@
 use mathlib.Core.Path.{◌≡◌}
-use mathlib.Core.Logic.{⊎_elim}
 use Prim.Native.Nat.{◌≤◌, ◌+◌, ◌-◌}
 use lib.ListN.{length, take}
 use Rattle.strlib.specs.Pointer.{texts}
 use Rattle.search.proofs.Finding.{Tried, Passed, find_laws}
 use Rattle.search.proofs.find.find.Statement.{statement}
 use Rattle.search.proofs.find.find.Tie as tie
+use Rattle.search.proofs.find.find.Lts.{else-positions-test, then-positions-test+then-loop-k-test+then-starts_with}
 
-abbrev invariant-loop : tie.invariant-loop
+abbrev invariant-loop : tie.invariant-loop-k
 invariant-loop store text count list number₀ pos2₀ skipped rest k₀ number pos2 k =
     (length list ≡ 32) × (number ≡ 0) × Tried store list count rest k
 
-abbrev decreases-loop : tie.decreases-loop
+abbrev decreases-loop : tie.decreases-loop-k
 decreases-loop store text count list number₀ pos2₀ skipped rest k₀ number pos2 k = count - k
 
 abbrev invariant-positions : tie.invariant-positions
@@ -48,4 +48,4 @@ find_spec =
     (λ c. search find_laws)
     (λ c. search find_laws)
     (λ c. search find_laws)
-    (λ c. ⊎_elim (λ w. search find_laws) (λ w. search find_laws) c.positions-test.branch))
+    (λ c. elim c.positions-test.branch [ else-positions-test w ↦ search find_laws | then-positions-test+then-loop-k-test+then-starts_with w ↦ search find_laws ]))

@@ -6,4 +6,4 @@ round_at_spec =
     tie.close
     (tie.spec
     (λ c κs. tt)
-    (λ c. rw c.sized.ensures))
+    (λ c. rw c.sized-to.ensures))

@@ -7,10 +7,10 @@ use Rattle.table.proofs.Running.{walk_laws}
 use Rattle.table.proofs.walk.Statement.{statement}
 use Rattle.table.proofs.walk.Tie as tie
 
-abbrev invariant-loop : tie.invariant-loop
+abbrev invariant-loop : tie.invariant-loop-i
 invariant-loop text table size at₀ i₀ at i = (i ≤ length text) × (at.state < size) × (at.read ≤ at₀.read + i) × (walk table size text (rests_of at₀) ≡ walk table size (drop i text) (rests_of at))
 
-abbrev decreases-loop : tie.decreases-loop
+abbrev decreases-loop : tie.decreases-loop-i
 decreases-loop text table size at₀ i₀ at i = length text - i
 
 pub walk_spec : {M : Type 1} → statement M

@@ -6,10 +6,10 @@ use Rattle.records.proofs.Limits.{name_laws}
 use Rattle.records.proofs.kinds.is_name.Statement.{statement}
 use Rattle.records.proofs.kinds.is_name.Tie as tie
 
-abbrev invariant-loop : tie.invariant-loop
+abbrev invariant-loop : tie.invariant-loop-i
 invariant-loop bytes i₀ i = (i ≤ length bytes) × (is_name bytes ≡ is_name (drop i bytes))
 
-abbrev decreases-loop : tie.decreases-loop
+abbrev decreases-loop : tie.decreases-loop-i
 decreases-loop bytes i₀ i = length bytes - i
 
 pub is_name_spec : {M : Type 1} → statement M

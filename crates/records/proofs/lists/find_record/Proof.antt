@@ -4,10 +4,10 @@ use Rattle.records.proofs.Seeking.{seek_laws}
 use Rattle.records.proofs.lists.find_record.Statement.{statement}
 use Rattle.records.proofs.lists.find_record.Tie as tie
 
-abbrev invariant-loop : tie.invariant-loop
+abbrev invariant-loop : tie.invariant-loop-k
 invariant-loop list kind number k₀ k = record_of list kind number (records list) ≡ record_of list kind number k
 
-abbrev decreases-loop : tie.decreases-loop
+abbrev decreases-loop : tie.decreases-loop-k
 decreases-loop list kind number k₀ k = k
 
 pub find_record_spec : {M : Type 1} → statement M

@@ -47,7 +47,7 @@ module _ (l : List ℕ) (k : ℕ) where
     pub place_fits : length l * 1 < 2 ^ 63 → Fits w64 (length l - length x + head_size)
     place_fits h = record { fits = omega arith }
 
-    pub name_placed : (t q : MutBor (List ℕ)) → Counted l k → (k ≡ 0 → ⊥) → t.now ≡ name_in x → IsPart q t (slice_cut t.now Trimmed)
+    pub name_placed : (t q : Bor (List ℕ)) → Counted l k → (k ≡ 0 → ⊥) → t.now ≡ name_in x → IsPart q t (slice_cut t.now Trimmed)
         → tells (at (length l - length x + head_size, length q.now)) ≡ tells (name_of l k)
     unfolding name_of
     name_placed t q c h e i =

@@ -6,7 +6,7 @@ pub index_of_spec : {M : Type 1} → statement M
 index_of_spec =
     tie.close
     (tie.spec
-    (λ c. low _ _ c.before.ranges.value c.if1.true)
-    (λ c. cast _ 0 c.before.ranges.value c.if1.false)
-    (λ c. inside _ _ c.before.before.ranges.value c.before.if1.false c.if2.true)
-    (λ c. high _ _ c.before.before.ranges.value c.before.if1.false c.if2.false))
+    (λ c. low _ _ c.ranges.value c.if-value-lt1.true)
+    (λ c. cast _ 0 c.ranges.value c.if-value-lt1.false)
+    (λ c. inside _ _ c.ranges.value c.if-value-lt1.false c.if-index-most.true)
+    (λ c. high _ _ c.ranges.value c.if-value-lt1.false c.if-index-most.false))

@@ -5,10 +5,10 @@ use Rattle.desk.proofs.LabelReading.{Marked, read_laws}
 use Rattle.desk.proofs.label.read.read_labels.Statement.{statement}
 use Rattle.desk.proofs.label.read.read_labels.Tie as tie
 
-abbrev invariant-loop : tie.invariant-loop
+abbrev invariant-loop : tie.invariant-loop-offset
 invariant-loop list met₀ offset₀ n₀ met offset n = Reached list n offset × Marked met (take offset list)
 
-abbrev decreases-loop : tie.decreases-loop
+abbrev decreases-loop : tie.decreases-loop-offset
 decreases-loop list met₀ offset₀ n₀ met offset n = length list - offset
 
 pub read_labels_spec : {M : Type 1} → statement M

@@ -6,30 +6,22 @@ use Rattle.translator.proofs.Writers.{closed_more, closed_hit, closed_laws}
 use Rattle.translator.proofs.closed_by.Statement.{statement}
 use Rattle.translator.proofs.closed_by.Tie as tie
 
-abbrev invariant-loop : tie.invariant-loop
+abbrev invariant-loop : tie.invariant-loop-i
 invariant-loop store count u alike list i₀ i = (length list ≡ 32) × Tried store list count u i
 
-abbrev decreases-loop : tie.decreases-loop
+abbrev decreases-loop : tie.decreases-loop-i
 decreases-loop store count u alike list i₀ i = count - i
 
 -- the test, of the lengths and the number
-returns : tie.Need-returns invariant-loop decreases-loop
+returns : tie.Need-returns-then-both invariant-loop decreases-loop
 returns c =
-    let b = c.before in
-    let t = b.before.before in
-    let n = t.before.before in
-    let i = n.before.loop.invariant in
-    let st = n.before.before.before.before.before in
-    closed_hit _ _ _ _ _ i.1 _ st.requires.1 _ _ _ t.text.ensures b.both.ensures n.loop-test.true i.0 st.requires.0 c.if1.true
+    let i = c.loop-i.invariant in
+    closed_hit _ _ _ _ _ i.1 _ c.requires.1 _ _ _ c.text-x.ensures c.both.ensures c.loop-i-test.true i.0 c.requires.0 c.if-both.true
 
-loop-again : tie.Need-loop-preserved invariant-loop decreases-loop
+loop-again : tie.Need-loop-i-preserved invariant-loop decreases-loop
 loop-again c =
-    let b = c.before in
-    let t = b.before.before in
-    let n = t.before.before in
-    let i = n.before.loop.invariant in
-    let st = n.before.before.before.before.before in
-    (i.0, closed_more _ _ _ _ _ i.1 _ st.requires.1 _ _ _ t.text.ensures b.both.ensures n.loop-test.true i.0 st.requires.0 c.if1.false)
+    let i = c.loop-i.invariant in
+    (i.0, closed_more _ _ _ _ _ i.1 _ c.requires.1 _ _ _ c.text-x.ensures c.both.ensures c.loop-i-test.true i.0 c.requires.0 c.if-both.false)
 
 pub closed_by_spec : {M : Type 1} → statement M
 closed_by_spec =

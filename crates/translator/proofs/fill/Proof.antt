@@ -6,10 +6,10 @@ use Rattle.translator.proofs.Writers.{fill_laws}
 use Rattle.translator.proofs.fill.Statement.{statement}
 use Rattle.translator.proofs.fill.Tie as tie
 
-abbrev invariant-loop : tie.invariant-loop
+abbrev invariant-loop : tie.invariant-loop-i
 invariant-loop table₀ base n v i₀ table i = (i ≤ n) × (length table ≡ length table₀) × Filled table₀ table base i v
 
-abbrev decreases-loop : tie.decreases-loop
+abbrev decreases-loop : tie.decreases-loop-i
 decreases-loop table₀ base n v i₀ table i = n - i
 
 pub fill_spec : {M : Type 1} → statement M

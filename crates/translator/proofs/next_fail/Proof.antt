@@ -8,9 +8,7 @@ use Rattle.translator.proofs.next_fail.Tie as tie
 -- the character is below 128
 small : (c : tie.After-code) → c.code.result < 128
 small c =
-    let e = c.before.before in
-    let a = e.before.before.before in
-    omega (arith, c.code.ensures, character_at a.args.x.now a.args.l a.requires.1 e.if1.false)
+    omega (arith, c.code.ensures, character_at c.args.x.now c.args.l c.requires.1 c.if-x-l.false)
 
 pub next_fail_spec : {M : Type 1} → statement M
 next_fail_spec =

@@ -7,11 +7,9 @@ use Rattle.translator.proofs.put_child.Statement.{statement}
 use Rattle.translator.proofs.put_child.Tie as tie
 
 -- the character is below 128
-small : (c : tie.After-code) → c.code.result < 128
+small : (c : tie.After-code-c) → c.code-c.result < 128
 small c =
-    let e = c.before.before.before in
-    let a = e.before.before.before.before in
-    omega (arith, c.code.ensures, character_at a.args.x.now (length a.args.u.now) a.requires.1 e.if1.false)
+    omega (arith, c.code-c.ensures, character_at c.args.x.now (length c.args.u.now) c.requires.1 c.if-x-l.false)
 
 pub put_child_spec : {M : Type 1} → statement M
 put_child_spec =

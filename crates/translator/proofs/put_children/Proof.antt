@@ -8,10 +8,10 @@ use Rattle.translator.proofs.Children.{children_laws}
 use Rattle.translator.proofs.put_children.Statement.{statement}
 use Rattle.translator.proofs.put_children.Tie as tie
 
-abbrev invariant-loop : tie.invariant-loop
+abbrev invariant-loop : tie.invariant-loop-k
 invariant-loop store m u alike base table₀ list l at₀ k₀ table at k = (length list ≡ 32) × (k ≤ m) × (at ≡ total_to (listed store list m) k) × (length table ≡ length table₀) × Children table₀ table base u (listed store list m) k
 
-abbrev decreases-loop : tie.decreases-loop
+abbrev decreases-loop : tie.decreases-loop-k
 decreases-loop store m u alike base table₀ list l at₀ k₀ table at k = k
 
 pub put_children_spec : {M : Type 1} → statement M

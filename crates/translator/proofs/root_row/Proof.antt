@@ -3,12 +3,9 @@ use Rattle.translator.proofs.Rows.{root_laws}
 use Rattle.translator.proofs.root_row.Statement.{statement}
 use Rattle.translator.proofs.root_row.Tie as tie
 
-finish-row-requires : tie.Need-finish-row-requires
+finish-row-requires : tie.Need-finish_row-requires
 finish-row-requires c κs =
-    let f = c.before.before.before in
-    let k = f.before.before.before in
-    let st = k.before.before.before.before.before in
-    (search root_laws, root_open _ _ _ _ st.requires.0 (search root_laws) _ _ _ k.closed_by.ensures (search root_laws) f.flat_row.ensures, search root_laws)
+    (search root_laws, root_open _ _ _ _ c.requires.0 (search root_laws) _ _ _ c.closed_by-closing.ensures (search root_laws) c.flat_row.ensures, search root_laws)
 
 pub root_row_spec : {M : Type 1} → statement M
 root_row_spec =

@@ -5,10 +5,10 @@ use Rattle.answers.proofs.Feeding.{walk_laws}
 use Rattle.answers.proofs.pieces.walk.Statement.{statement}
 use Rattle.answers.proofs.pieces.walk.Tie as tie
 
-abbrev invariant-loop : tie.invariant-loop
+abbrev invariant-loop : tie.invariant-loop-at
 invariant-loop part hold₀ out₀ t₀ at₀ hold out t at = Walked t₀ hold₀ out₀ part at t hold out
 
-abbrev decreases-loop : tie.decreases-loop
+abbrev decreases-loop : tie.decreases-loop-at
 decreases-loop part hold₀ out₀ t₀ at₀ hold out t at = length part - at
 
 pub walk_spec : {M : Type 1} → statement M

@@ -15,21 +15,18 @@ decreases-loop x y raised n from width i₀ i = n - i
 
 cuts : tie.Need-are_equal-requires invariant-loop decreases-loop
 cuts c κs =
-    let start = c in
     let loop = c.loop-i in
-    cut_paired _ _ _ _ loop.i _ start.requires.0 loop.invariant.1 (search rules)
+    cut_paired _ _ _ _ loop.i _ c.requires.0 loop.invariant.1 (search rules)
 
 stops : tie.Need-returns-then-not-are_equal invariant-loop decreases-loop
 stops c =
-    let start = c in
     let loop = c.loop-i in
-    (loop.invariant.1, block_stopped _ _ _ _ loop.i _ start.requires.0 loop.invariant.1 (search rules) _ c.are_equal.ensures c.if-not-are_equal.true)
+    (loop.invariant.1, block_stopped _ _ _ _ loop.i _ c.requires.0 loop.invariant.1 (search rules) _ c.are_equal.ensures c.if-not-are_equal.true)
 
 passes : tie.Need-loop-i-preserved invariant-loop decreases-loop
 passes c =
-    let start = c in
     let loop = c.loop-i in
-    (search rules, block_passed _ _ _ _ loop.i _ start.requires.0 loop.invariant.1 (search rules) _ c.are_equal.ensures c.if-not-are_equal.false)
+    (search rules, block_passed _ _ _ _ loop.i _ c.requires.0 loop.invariant.1 (search rules) _ c.are_equal.ensures c.if-not-are_equal.false)
 
 pub pass_blocks_spec : {M : Type 1} → statement M
 pass_blocks_spec =

@@ -7,10 +7,10 @@ use Rattle.translator.proofs.Common.{alike_laws}
 use Rattle.translator.proofs.alike.fill_alike.Statement.{statement}
 use Rattle.translator.proofs.alike.fill_alike.Tie as tie
 
-abbrev invariant-loop : tie.invariant-loop
+abbrev invariant-loop : tie.invariant-loop-j
 invariant-loop store count alike₀ list j₀ alike j = (length list ≡ 32) × (length alike ≡ length alike₀) × Alike (listed store list count) alike j
 
-abbrev decreases-loop : tie.decreases-loop
+abbrev decreases-loop : tie.decreases-loop-j
 decreases-loop store count alike₀ list j₀ alike j = count - j
 
 pub fill_alike_spec : {M : Type 1} → statement M

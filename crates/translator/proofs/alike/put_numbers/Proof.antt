@@ -7,10 +7,10 @@ use Rattle.translator.proofs.Common.{numbers_laws}
 use Rattle.translator.proofs.alike.put_numbers.Statement.{statement}
 use Rattle.translator.proofs.alike.put_numbers.Tie as tie
 
-abbrev invariant-loop : tie.invariant-loop
+abbrev invariant-loop : tie.invariant-loop-k
 invariant-loop store count x base alike₀ list k₀ alike k = (length list ≡ 32) × (k ≤ count) × (length alike ≡ length alike₀) × NumbersPut (listed store list count) alike₀ alike base k x
 
-abbrev decreases-loop : tie.decreases-loop
+abbrev decreases-loop : tie.decreases-loop-k
 decreases-loop store count x base alike₀ list k₀ alike k = count - k
 
 pub put_numbers_spec : {M : Type 1} → statement M

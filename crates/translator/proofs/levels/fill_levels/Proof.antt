@@ -12,35 +12,28 @@ use Rattle.translator.proofs.Rows.{ready_same}
 use Rattle.translator.proofs.levels.fill_levels.Statement.{statement}
 use Rattle.translator.proofs.levels.fill_levels.Tie as tie
 
-abbrev invariant-loop : tie.invariant-loop
+abbrev invariant-loop : tie.invariant-loop-l
 invariant-loop store list count alike n table₀ fails₀ l₀ table fails l =
     (length fails ≡ 32) × (length table ≡ length table₀) × (0 < l) × Levels (listed store list count) table fails l 0 × Kept table₀ table (1 + 130 * (total (listed store list count) + 2))
 
-abbrev decreases-loop : tie.decreases-loop
+abbrev decreases-loop : tie.decreases-loop-l
 decreases-loop store list count alike n table₀ fails₀ l₀ table fails l = n + 1 - l
 
-loop-holds : tie.Need-loop-init invariant-loop decreases-loop
+loop-holds : tie.Need-loop-l-init invariant-loop decreases-loop
 loop-holds c =
-    let st = c.before.before.before in
-    (search rules, refl, omega arith, level_start _ _ _ st.requires.2 (ones _ _ _ _ st.requires.0), kept_none _ _)
+    (search rules, refl, omega arith, level_start _ _ _ c.requires.2 (ones _ _ _ _ c.requires.0), kept_none _ _)
 
-fill-level-requires : tie.Need-fill-level-requires invariant-loop decreases-loop
+fill-level-requires : tie.Need-fill_level-requires invariant-loop decreases-loop
 fill-level-requires c κs =
-    let a = c.before.before.before in
-    let st = a.before.before.before.before in
-    (ready_same _ _ _ _ _ st.requires.0 a.loop.invariant.1, a.loop.invariant.2, omega arith, search rules, a.loop.invariant.3, st.requires.3)
+    (ready_same _ _ _ _ _ c.requires.0 c.loop-l.invariant.1, c.loop-l.invariant.2, omega arith, search rules, c.loop-l.invariant.3, c.requires.3)
 
-loop-again : tie.Need-loop-preserved invariant-loop decreases-loop
+loop-again : tie.Need-loop-l-preserved invariant-loop decreases-loop
 loop-again c =
-    let f = c.before.before.before in
-    let a = f.before.before.before.before in
-    (search rules, search rules, omega arith, f.fill_level.ensures.levels, kept_trans _ _ _ _ a.loop.invariant.4 f.fill_level.ensures.kept)
+    (search rules, search rules, omega arith, c.fill_level.ensures.levels, kept_trans _ _ _ _ c.loop-l.invariant.4 c.fill_level.ensures.kept)
 
 returns : tie.Need-returns invariant-loop decreases-loop
 returns c =
-    let a = c.before in
-    let st = a.before.before.before.before in
-    levels_end _ _ _ _ _ _ st.requires.1 c.loop-test.false a.loop.invariant.3 a.loop.invariant.4
+    levels_end _ _ _ _ _ _ c.requires.1 c.loop-l-test.false c.loop-l.invariant.3 c.loop-l.invariant.4
 
 pub fill_levels_spec : {M : Type 1} → statement M
 fill_levels_spec =

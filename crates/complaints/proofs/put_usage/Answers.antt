@@ -1,0 +1,5 @@
+use Rattle.complaints.proofs.Saying.{line_laws}
+use Rattle.complaints.proofs.put_usage.Goals as goal
+
+pub returns : goal.returns
+returns c = search line_laws

@@ -5,10 +5,10 @@ use borrow.Author.Rules.{rules}
 use Rattle.old_and_new.proofs.paint.Statement.{statement}
 use Rattle.old_and_new.proofs.paint.Tie as tie
 
-abbrev invariant-loop : tie.invariant-loop
+abbrev invariant-loop : tie.invariant-loop-i
 invariant-loop store₀ i₀ store i = (i ≤ length store₀) × (length store ≡ length store₀)
 
-abbrev decreases-loop : tie.decreases-loop
+abbrev decreases-loop : tie.decreases-loop-i
 decreases-loop store₀ i₀ store i = length store₀ - i
 
 pub paint_spec : {M : Type 1} → statement M

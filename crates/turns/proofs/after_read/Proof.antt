@@ -20,13 +20,13 @@ after_read_spec =
     (λ c κs. tt)
     (λ c. search turn_laws)
     (λ c.
-    let fed = c.before.before in
-    let cut = fed.before.before.before in
-    let counted = cut.before.before in
-    let more = counted.before in
-    let asked = more.before.before.before in
-    let start = asked.before.before.before.before in
-    read_more _ start.ranges.got _ _ _ _ _ asked.is_going.ensures more.before.before.if1.true _ _ _ _ _ _ more.before.if2.false more.if3.false
-    (rw (to_z-of_z start.ranges.got) at counted.count.ensures.1) cut.before.full.ensures cut.text.ensures fed.feed.ensures)
+    let fed = c in
+    let cut = fed in
+    let counted = cut in
+    let more = counted in
+    let asked = more in
+    let start = asked in
+    read_more _ start.ranges.got _ _ _ _ _ asked.is_going.ensures more.if-is_going.true _ _ _ _ _ _ more.if-got-lt0.false more.if-got-eq0.false
+    (rw (to_z-of_z start.ranges.got) at counted.count-n.ensures.1) cut.full.ensures cut.text.ensures fed.feed-t.ensures)
     (λ c κs. tt)
     (λ c. search turn_laws))

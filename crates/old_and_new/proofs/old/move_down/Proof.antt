@@ -6,10 +6,10 @@ use Rattle.old_and_new.proofs.Single.{single_laws}
 use Rattle.old_and_new.proofs.old.move_down.Statement.{statement}
 use Rattle.old_and_new.proofs.old.move_down.Tie as tie
 
-abbrev invariant-loop : tie.invariant-loop
+abbrev invariant-loop : tie.invariant-loop-i
 invariant-loop store₀ from to n i₀ store i = (i ≤ n) × (length store ≡ length store₀) × (store ≡ down store₀ from to i)
 
-abbrev decreases-loop : tie.decreases-loop
+abbrev decreases-loop : tie.decreases-loop-i
 decreases-loop store₀ from to n i₀ store i = n - i
 
 pub move_down_spec : {M : Type 1} → statement M

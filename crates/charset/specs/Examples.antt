@@ -1,5 +1,5 @@
 -- Worked examples, as one claim on the definitions. Assumes nothing.
-use Rattle.std.specs.Prelude.{ℕ, ◌+◌, ◌-◌, ◌^◌, ◌≡◌, refl, true, false, List, replicate}
+use Rattle.std.specs.Prelude.{ℕ, ◌+◌, ◌^◌, ◌≡◌, refl, true, false, List, replicate}
 use Rattle.strlib.specs.Pointer.{pointer, store_fits, good_in, text_of, all, characters, readable}
 use Rattle.strlib.specs.Quoted.{bytes}
 use Rattle.strlib.specs.Refusal.{refused, gives, outcome, after, ruled, nowhere, at}

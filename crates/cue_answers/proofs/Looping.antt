@@ -7,7 +7,7 @@ use native.Mathlib.Omega.{arith}
 use borrow.Author.Rules.{rules}
 use lib.IntN.{ℤ}
 use lib.ListN.{length, take, length-append}
-use Rattle.libc.specs.Io.{Moved}
+use Rattle.desk_io.specs.Io.{Moved}
 use Rattle.strlib.proofs.Pointing.{text_front}
 use Rattle.strlib.specs.Pointer.{pointer, text_of}
 use Rattle.strlib.specs.declared.StrPtr.{StrPtr}
@@ -88,7 +88,7 @@ module _ (run : Run) (n : ℕ) (h o : List ℕ) (spare : ℕ) (r : Run) (h' o' :
 pub room_kept : (p p' o o' : List ℕ) → Room p o → length p' ≡ length p → length o' ≡ length o → Room p' o'
 room_kept p p' o o' a e f = record { some = rw e a.some; answers = rw (e, f) a.answers; last = rw f a.last }
 
-pub ruleset loop-laws = (rules, tried_is, turn_is, turns_start, turns_more, turns_ended, turns_over, room_kept)
+pub ruleset loop_laws = (rules, tried_is, turn_is, turns_start, turns_more, turns_ended, turns_over, room_kept)
 
 -- ---- a whole run
 

@@ -3,7 +3,7 @@
 -- calls, which bytes a write is given, and that there is no other read or write, is read by eye in src/main.rt. Assumes
 -- nothing.
 use Rattle.std.specs.Prelude.{ℕ, ◌+◌, ◌*◌, ◌≤◌, ◌≡◌, Bool, true, List, [], ◌∷◌, length}
-use Rattle.libc.specs.Io.{Moved}
+use Rattle.desk_io.specs.Io.{Moved}
 use Rattle.endings.specs.Ending.{is_going}
 use Rattle.endings.specs.declared.Ending.{Ending}
 use Rattle.endings.specs.declared.Ending.TheVariants.{Unopened}

@@ -6,6 +6,10 @@ ghost use Rattle.std.specs.Prelude.{length};
 ghost use Rattle.cue_answers.specs.Loop.{Room, Tried, Turned, AllTurns, Answering, OfFile};
 
 use endings::{Ending, Source};
+use std::env::{Env, FillError};
+use std::fs;
+use std::io::{Read, Write};
+use std::rt::Files;
 use strlib::StrPtr;
 use turns::Run;
 
@@ -16,27 +20,35 @@ const PIECE: usize = 3072;
 const OUT: usize = 36 * PIECE;
 
 // Writes what a run is told to write.
-fn write_told(out: &[u8], run: Run) -> Run
+fn write_told<W: Write>(to: &mut W, out: &[u8], run: Run) -> Run
     ensures { Tried run result }
 {
     let state = run.state;
-    let done = desk_io::write(1, strlib::text(out, StrPtr::full(0, state.out)));
+    let done = desk_io::write(to, strlib::text(out, StrPtr::full(0, state.out)));
     turns::after_write(done, run)
 }
 
 // Reads once, and writes the answers.
-fn turn(fd: i32, piece: &mut [u8], hold: &mut [u8; answers::HOLD], out: &mut [u8], run: Run) -> Run
+fn turn<R: Read, W: Write>(
+    from: &mut R,
+    to: &mut W,
+    piece: &mut [u8],
+    hold: &mut [u8; answers::HOLD],
+    out: &mut [u8],
+    run: Run,
+) -> Run
     requires { Room piece.old out.old }
     ensures { Turned run piece.new hold.old out.old result hold.new out.new }
 {
-    let got = desk_io::read(fd, piece);
+    let got = desk_io::read(from, piece);
     let t = turns::after_read(got, piece, hold, out, run);
-    write_told(out, t)
+    write_told(to, out, t)
 }
 
 // Turn after turn, until the run has ended. The turns count down from a number that no input uses up.
-fn all_turns(
-    fd: i32,
+fn all_turns<R: Read, W: Write>(
+    from: &mut R,
+    to: &mut W,
     piece: &mut [u8],
     hold: &mut [u8; answers::HOLD],
     out: &mut [u8],
@@ -50,7 +62,7 @@ fn all_turns(
     while 0 < turns {
         let ending = r.ending;
         if endings::is_going(ending) {
-            r = turn(fd, piece, hold, out, r);
+            r = turn(from, to, piece, hold, out, r);
             turns -= 1;
         } else {
             return r;
@@ -60,46 +72,89 @@ fn all_turns(
 }
 
 // Answers a whole input, and says how the run ended.
-fn answer_all(fd: i32, out: &mut [u8; OUT]) -> Ending
+fn answer_all<R: Read, W: Write>(from: &mut R, to: &mut W, out: &mut [u8; OUT]) -> Ending
     ensures { Answering out.old result out.new }
 {
     let mut piece = [0u8; PIECE];
     let mut hold = [0u8; answers::HOLD];
     let run = turns::begin(out);
-    let run = write_told(out, run);
-    let run = all_turns(fd, &mut piece, &mut hold, out, run);
+    let run = write_told(to, out, run);
+    let run = all_turns(from, to, &mut piece, &mut hold, out, run);
     run.ending
 }
 
-// The same of a file.
-fn answer_file(name: &[u8], out: &mut [u8; OUT]) -> Ending
+// The same of a file. A name that is no text in UTF-8 names none that can be opened.
+fn answer_file<F: Files, W: Write>(
+    files: &F,
+    to: &mut W,
+    name: &[u8],
+    out: &mut [u8; OUT],
+) -> Ending
     ensures { OfFile out.old result out.new }
 {
-    let fd = os::open_read(name);
-    if fd < 0 {
-        return Ending::Unopened;
+    match str::from_utf8(name) {
+        Ok(name) => match fs::File::open(files, name) {
+            Ok(file) => {
+                let mut file = file;
+                answer_all(&mut file, to, out)
+            }
+            Err(_) => Ending::Unopened,
+        },
+        Err(_) => Ending::Unopened,
     }
-    answer_all(fd, out)
 }
 
 // Says on standard error why a run is not complete; whether that could be written nobody is left to be told.
-fn complain(out: &mut [u8; OUT], source: Source, name: &[u8], ending: Ending) {
+fn complain<W: Write>(
+    to: &mut W,
+    out: &mut [u8; OUT],
+    source: Source,
+    name: &[u8],
+    ending: Ending,
+) {
     let n = complaints::complaint(out, b"cue_answers", source, name, ending);
-    desk_io::write(2, strlib::text(out, StrPtr::full(0, n)));
+    desk_io::write(to, strlib::text(out, StrPtr::full(0, n)));
 }
 
-fn main() {
+// Whether there is an argument of this number, 0 being the program's own name.
+fn is_given<E: Env>(env: &E, i: usize) -> bool {
+    let mut nothing = [0u8; 0];
+    match env.arg(i, &mut nothing) {
+        Ok(_) => true,
+        Err(FillError::TooLong) => true,
+        Err(FillError::NotPresent) => false,
+    }
+}
+
+// How many arguments there are, the program's own name among them; 3 stands for more too.
+fn argument_count<E: Env>(env: &E) -> usize {
+    if !is_given(env, 1) {
+        return 1;
+    }
+    if !is_given(env, 2) {
+        return 2;
+    }
+    3
+}
+
+fn main(rt: HostRuntime) {
     let mut out = [0u8; OUT];
     let mut name = io::buffer();
     // an argument too long for the buffer fills it, and no file has a name that long
-    let n = desk_io::argument(&mut name);
+    let n = desk_io::argument(&rt, &mut name);
     let named = StrPtr::full(0, n);
-    let source = endings::source_of(os::arg_count(), strlib::text(&name, named));
+    let source = endings::source_of(argument_count(&rt), strlib::text(&name, named));
     let ending = match source {
-        Source::Input => answer_all(0, &mut out),
-        Source::File => answer_file(strlib::text(&name, named), &mut out),
+        Source::Input => answer_all(&mut rt.stdin(), &mut rt.stdout(), &mut out),
+        Source::File => answer_file(&rt, &mut rt.stdout(), strlib::text(&name, named), &mut out),
         Source::Neither => Ending::Misused,
     };
     complaints::show(&mut name);
-    complain(&mut out, source, strlib::text(&name, named), ending);
+    complain(
+        &mut rt.stderr(),
+        &mut out,
+        source,
+        strlib::text(&name, named),
+        ending,
+    );
 }

@@ -85,23 +85,23 @@ module _ (n p q : ℕ) where
 
 -- the bounds of a cut that is known
 module _ (p : StrPtr) (c : Cut) where
-  pub bounds-relative : (a : ℕ) → c ≡ Relative a → leb a p.length ≡ in_bounds p c
+  pub bounds_relative : (a : ℕ) → c ≡ Relative a → leb a p.length ≡ in_bounds p c
   unfolding in_bounds
-  bounds-relative a e = rw e
+  bounds_relative a e = rw e
 
-  pub bounds-counted : (at n : ℕ) (r : Bool) → c ≡ Counted at n → r ≡ counted_in p.maximum at n → r ≡ in_bounds p c
+  pub bounds_counted : (at n : ℕ) (r : Bool) → c ≡ Counted at n → r ≡ counted_in p.maximum at n → r ≡ in_bounds p c
   unfolding in_bounds
-  bounds-counted at n r e h = rw e h
+  bounds_counted at n r e h = rw e h
 
-  pub bounds-between : (pos1 pos2 : ℕ) (r : Bool) → c ≡ Between pos1 pos2 → r ≡ between_in p.length pos1 pos2 → r ≡ in_bounds p c
+  pub bounds_between : (pos1 pos2 : ℕ) (r : Bool) → c ≡ Between pos1 pos2 → r ≡ between_in p.length pos1 pos2 → r ≡ in_bounds p c
   unfolding in_bounds
-  bounds-between pos1 pos2 r e h = rw e h
+  bounds_between pos1 pos2 r e h = rw e h
 
-  pub bounds-trimmed : c ≡ Trimmed → true ≡ in_bounds p c
+  pub bounds_trimmed : c ≡ Trimmed → true ≡ in_bounds p c
   unfolding in_bounds
-  bounds-trimmed e = rw e
+  bounds_trimmed e = rw e
 
-pub ruleset bounds-laws = (
+pub ruleset bounds_laws = (
   rules,
   counted_zero,
   counted_past,
@@ -112,10 +112,10 @@ pub ruleset bounds-laws = (
   between_open,
   between_turned,
   between_last,
-  bounds-relative,
-  bounds-counted,
-  bounds-between,
-  bounds-trimmed,
+  bounds_relative,
+  bounds_counted,
+  bounds_between,
+  bounds_trimmed,
 )
 
 -- ---- trailing blanks

@@ -1,5 +1,5 @@
 -- Worked cuts, as one claim on the definitions. Assumes nothing.
-use Rattle.std.specs.Prelude.{ℕ, ◌+◌, ◌-◌, ◌≡◌, refl, List, [], ◌∷◌, ◌++◌}
+use Rattle.std.specs.Prelude.{ℕ, ◌≡◌, refl, List, [], ◌∷◌, ◌++◌}
 use Rattle.strlib.specs.Quoted.{bytes}
 use Rattle.strlib.specs.Pointer.{pointer, sized, part_of, store_fits, good_in, text_of, all, characters, readable}
 use Rattle.strlib.specs.Refusal.{refused, gives, outcome}

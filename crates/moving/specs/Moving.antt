@@ -1,6 +1,6 @@
 -- What moving, blanks, bytes and reversal leave in a store: 01, "Copying". Outside the store nothing is written.
 -- Assumes nothing.
-use Rattle.std.specs.Prelude.{ℕ, ◌+◌, cond, ◌&&◌, List, [], ◌∷◌, ◌++◌, length, take, drop, replicate}
+use Rattle.std.specs.Prelude.{ℕ, cond, ◌&&◌, List, [], ◌∷◌, ◌++◌, length, take, drop, replicate}
 use Rattle.strlib.specs.Pointer.{within}
 use Rattle.strlib.specs.Store.{put}
 

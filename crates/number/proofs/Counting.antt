@@ -99,8 +99,8 @@ module _ (base n : ℕ) (k : Countable base n) where
   pub base_some : 0 < base
   base_some = omega (arith, base_is base k.based)
 
-  pub quotient-smaller : (m : ℕ) → base ≤ m → m / base < m
-  quotient-smaller m l = let b = base_is base k.based in div-lt_self (omega arith) (omega arith)
+  pub quotient_smaller : (m : ℕ) → base ≤ m → m / base < m
+  quotient_smaller m l = let b = base_is base k.based in div-lt_self (omega arith) (omega arith)
 
   pub count_start : 1 + length (digits base n) ≡ length (digits base n) + 1
   count_start = omega arith
@@ -120,4 +120,4 @@ module _ (base n : ℕ) (k : Countable base n) where
     pub count_end : m < base → count ≡ length (digits base n)
     count_end l = let d : length (digits base m) ≡ 1 = rw (digits_one base m l) in omega arith
 
-pub ruleset count_laws = (rules, base_some, quotient-smaller, count_start, count_fits, quotient_small, count_step, count_end)
+pub ruleset count_laws = (rules, base_some, quotient_smaller, count_start, count_fits, quotient_small, count_step, count_end)

@@ -15,7 +15,7 @@ use borrow.Author.Tests.{le-ltb}
 use Rattle.strlib.proofs.Storing.{set_put, put_put, put_before}
 use Rattle.strlib.specs.Store.{put}
 use Rattle.number.proofs.Ranging.{base_is, range_mag, abs_mag}
-use Rattle.number.proofs.Counting.{digits_some, digits_few, digits_one, digits_more, base_some, quotient-smaller}
+use Rattle.number.proofs.Counting.{digits_some, digits_few, digits_one, digits_more, base_some, quotient_smaller}
 use Rattle.number.specs.Limits.{is_base, in_range}
 use Rattle.number.specs.Written.{digits, sign, written}
 use Rattle.number.specs.Inner.{Countable, Room, TextRoom}
@@ -33,7 +33,7 @@ module _ (s : List ℕ) (base n count at size : ℕ) (k : Room base n count at s
   first_small m l = omega (arith, base_is base k.able.based)
 
   pub quotient_below : (m : ℕ) → base ≤ m → m / base < m
-  quotient_below m l = quotient-smaller base n k.able m l
+  quotient_below m l = quotient_smaller base n k.able m l
 
   module _ (t : List ℕ) (m j : ℕ) (h : m < 68719476736) (ej : j ≡ length (digits base m)) (same : length t ≡ length s) (room : at + j ≤ length s) where
     pub digit_left : 1 ≤ j

@@ -1,5 +1,4 @@
 use borrow.Author.Rules.{rules}
-use borrow.Author.Tests.{not-true, not-false}
 use Prim.Native.Nat.{◌≤◌, ◌-◌}
 use lib.IntN.{sub_ℕ}
 use Rattle.compare.specs.Compare.{unequal_from}

@@ -1,4 +1,4 @@
-use Rattle.cutting.proofs.Bounding.{bounds-laws}
+use Rattle.cutting.proofs.Bounding.{bounds_laws}
 use Rattle.cutting.proofs.bounds.counted_in.Statement.{statement}
 use Rattle.cutting.proofs.bounds.counted_in.Tie as tie
 
@@ -6,9 +6,9 @@ pub counted_in_spec : {M : Type 1} → statement M
 counted_in_spec =
     tie.close
     (tie.spec
-    (λ c. search bounds-laws)
-    (λ c. search bounds-laws)
-    (λ c. search bounds-laws)
-    (λ c. search bounds-laws)
-    (λ c. search bounds-laws)
-    (λ c. search bounds-laws))
+    (λ c. search bounds_laws)
+    (λ c. search bounds_laws)
+    (λ c. search bounds_laws)
+    (λ c. search bounds_laws)
+    (λ c. search bounds_laws)
+    (λ c. search bounds_laws))

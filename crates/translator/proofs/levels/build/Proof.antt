@@ -11,11 +11,11 @@ root-row-requires c κs =
 
 fill-levels-requires : tie.Need-fill_levels-requires
 fill-levels-requires c κs = (
-      row_ready _ _ _ _ c.requires _ c.total_of-n.ensures _ c.narrow.ensures _ c.root_row.ensures,
-      build_total _ _ _ _ c.requires _ c.total_of-n.ensures,
-      c.root_row.ensures.row,
-      c.fill_alike.ensures,
-    )
+  row_ready _ _ _ _ c.requires _ c.total_of-n.ensures _ c.narrow.ensures _ c.root_row.ensures,
+  build_total _ _ _ _ c.requires _ c.total_of-n.ensures,
+  c.root_row.ensures.row,
+  c.fill_alike.ensures,
+)
 
 same_length : tie.Need-shape_of-table
 same_length c =

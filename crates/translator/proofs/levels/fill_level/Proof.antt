@@ -38,10 +38,10 @@ part_fill_state_start c =
 
 fill-state-requires : tie.Need-fill_state-requires invariant-loop decreases-loop
 fill-state-requires c κs = (
-      level_ready _ _ _ _ c.requires.0 c.loop-j.invariant.0 _ c.loop-j.invariant.2,
-      level_turn _ _ _ _ c.requires.0 c.loop-j.invariant.0 _ _ _ _ c.loop-j-test.true c.loop-j.invariant.4 c.text-x.ensures _ _ _ _ _ c.requires.1 c.loop-j.invariant.5 refl refl,
-      alike_to _ _ _ c.requires.0.few c.loop-j.invariant.0 _ _ _ _ c.requires.5 c.loop-j-test.true c.text-x.ensures,
-    )
+  level_ready _ _ _ _ c.requires.0 c.loop-j.invariant.0 _ c.loop-j.invariant.2,
+  level_turn _ _ _ _ c.requires.0 c.loop-j.invariant.0 _ _ _ _ c.loop-j-test.true c.loop-j.invariant.4 c.text-x.ensures _ _ _ _ _ c.requires.1 c.loop-j.invariant.5 refl refl,
+  alike_to _ _ _ c.requires.0.few c.loop-j.invariant.0 _ _ _ _ c.requires.5 c.loop-j-test.true c.text-x.ensures,
+)
 
 add_off : tie.Need-overflow_add-off-in-loop-j-2 invariant-loop decreases-loop
 add_off c =

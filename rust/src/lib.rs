@@ -5,7 +5,7 @@
 //! of a cue line says which word is at fault, if one is ([`CueRefusal`]), that of a label call which record
 //! ([`LabelRefusal`]).
 //!
-//! `rt staticlib strlib_c` in the folder above makes the library that this package links; `cargo test --release` compares every
+//! `tools/build` in the folder above makes the library that this package links; `cargo test --release` compares every
 //! call with documents 01 and 02.
 //!
 //! ```

@@ -1,4 +1,4 @@
--- The program's own loop, in the words of a run: 01, "Cue lines and labels". What a call of C's reads and writes no
+-- The program's own loop, in the words of a run: 01, "Cue lines and labels". What the system reads and writes no
 -- contract can say: what a read answered and whether a write took all are some numbers here. That they are those of the
 -- calls, which bytes a write is given, and that there is no other read or write, is read by eye in src/main.rt. Assumes
 -- nothing.

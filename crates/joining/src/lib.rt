@@ -70,8 +70,8 @@ fn round_at(
 // many.
 fn move_next(store: &mut [u8], destination: StrPtr, n: usize, source: StrPtr, q: usize) -> usize
     requires { Next (length store.old) destination n source q }
-    ensures store_after { (result, store.new) ≡ moved_next store.old destination n source q }
-    ensures result_bound { (n + result ≤ 65536) × (q + result ≤ 65536) }
+    ensures moved { (result, store.new) ≡ moved_next store.old destination n source q }
+    ensures bound { (n + result ≤ 65536) × (q + result ≤ 65536) }
 {
     let m = moving::least(source.length - q, destination.maximum - n);
     moving::move_characters(store, source.start + q, destination.start + n, m);

@@ -13,7 +13,7 @@ fn main() {
     println!("cargo:rerun-if-changed={}", library.display());
     if !library.is_file() {
         eprintln!(
-            "error: no {}: run `tools/build` there first, or name the library's folder in STRLIB_LIB",
+            "error: no {}: run `tools/build` at the top of the repository first, or name the library's folder in STRLIB_LIB",
             library.display()
         );
         process::exit(1);

@@ -13,7 +13,7 @@ use Rattle.compare.specs.Order.{order_n}
 use Rattle.compare.specs.Compare.{pairs, length_decides, order_at, unequal_from, FirstUnequal, decided, decision}
 use Rattle.compare.specs.Padded.{padded_order, Equal, Less, PaddedOrder}
 use Rattle.compare.proofs.Extending.{untranslated, turned_round}
-use Rattle.compare.proofs.Ordering.{by_order, plain, less as order-less, same as order_same, more as order-more}
+use Rattle.compare.proofs.Ordering.{by_order, plain, less as order_less, same as order_same, more as order_more}
 use Rattle.compare.proofs.Pairing.{first_unequal_is, padded_in, padded_past}
 
 -- ---- what decides
@@ -24,7 +24,7 @@ pub data Which (xs ys : List ℕ) : Type 0 where
   is_more : Less ys xs → Which xs ys
 
 order_one : (a b : ℕ) → order_n a b ≡ 1 → a ≡ b
-order_one a b e = by_order a b (λ h. absurd (omega (arith, order-less a b h))) (λ h. h) (λ h. absurd (omega (arith, order-more a b h)))
+order_one a b e = by_order a b (λ h. absurd (omega (arith, order_less a b h))) (λ h. h) (λ h. absurd (omega (arith, order_more a b h)))
 
 module _ (xs ys : List ℕ) where
   at_is : (i : ℕ) → order_at xs ys (pos 0) i ≡ order_n (get_or xs i 32) (get_or ys i 32)
@@ -81,7 +81,7 @@ module _ (xs ys : List ℕ) where
 
   less_order : Less xs ys → padded_order xs ys ≡ 0
   less_order r =
-      at_place r.place r.same (λ e. omega (arith, r.less)) ∙ order-less (get_or xs r.place 32) (get_or ys r.place 32) r.less
+      at_place r.place r.same (λ e. omega (arith, r.less)) ∙ order_less (get_or xs r.place 32) (get_or ys r.place 32) r.less
 
 -- the texts exchanged
 pub padded_turned : (xs ys : List ℕ) → padded_order ys xs ≡ 2 - padded_order xs ys

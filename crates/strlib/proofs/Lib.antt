@@ -1,4 +1,5 @@
 pub mod Refusing
+pub mod Answering
 pub mod Pointing
 pub mod Listing
 pub mod Texts

@@ -3,4 +3,3 @@ pub mod Quoted
 pub mod Refusal
 pub mod Store
 pub mod Checks
-pub mod Inner

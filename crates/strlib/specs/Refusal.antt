@@ -1,8 +1,7 @@
 -- Refusals: 01, "Refusal numbers". Assumes nothing.
-use Rattle.std.specs.Prelude.{ℕ, zero, suc, Bool, cond, List, [], ◌∷◌}
-use Rattle.strlib.specs.declared.StrPtr.{StrPtr}
-use Rattle.strlib.specs.declared.StrAnswer.{StrAnswer}
-use Rattle.strlib.specs.declared.StrAnswer.TheVariants.{Given, Refused}
+use Rattle.std.specs.Prelude.{ℕ, zero, suc, Bool, cond, List, [], ◌∷◌, Option, Some, None, Result, Ok, Err}
+use Rattle.strlib.specs.declared.refusal.Refusal.{Refusal}
+use Rattle.strlib.specs.declared.refusal.Refusal.TheVariants.{Pointer, Character, Range, Position, Overlap, Room, NoNumber, Value, Translation, Table, Form, Matrix, Short, Repeated}
 
 -- what a call answers: a refusal's number, or the value
 pub data Outcome (A : Type 0) : Type 0 where
@@ -39,7 +38,40 @@ after (suc k) new old = old
 unfoldable pub ruled : {A : Type 0} → ℕ → A → List ℕ → List ℕ → Outcome A × List ℕ
 ruled k x new old = (outcome k x, after k new old)
 
--- the paper's value for each case of the answer
-abbrev pub answered : StrAnswer → Outcome StrPtr
-answered (Given p) = gives p
-answered (Refused n) = refused n
+-- ---- refusals of the code, as the paper has them
+
+-- a refusal's number
+abbrev pub refusal_number : Refusal → ℕ
+refusal_number Pointer = 1
+refusal_number Character = 2
+refusal_number Range = 3
+refusal_number Position = 4
+refusal_number Overlap = 5
+refusal_number Room = 6
+refusal_number NoNumber = 7
+refusal_number Value = 8
+refusal_number Translation = 9
+refusal_number Table = 10
+refusal_number Form = 11
+refusal_number Matrix = 12
+refusal_number Short = 13
+refusal_number Repeated = 14
+
+-- the number that checks found, 0 where all hold
+abbrev pub number_found : {A : Type 0} → Result A Refusal → ℕ
+number_found (Ok x) = 0
+number_found (Err refusal) = refusal_number refusal
+
+-- the paper's value of an answer
+abbrev pub answered : {A : Type 0} → Result A Refusal → Outcome A
+answered (Ok x) = gives x
+answered (Err refusal) = refused (refusal_number refusal)
+
+-- the same of an answer that may have found nothing
+abbrev pub sought_of : {A : Type 0} → Option A → Sought A
+sought_of (Some x) = at x
+sought_of None = nowhere
+
+abbrev pub sought_answered : {A : Type 0} → Result (Option A) Refusal → Outcome (Sought A)
+sought_answered (Ok found) = gives (sought_of found)
+sought_answered (Err refusal) = refused (refusal_number refusal)

@@ -3,6 +3,7 @@
 
 mod checks;
 mod lists;
+mod refusal;
 mod strings;
 
 ghost use Rattle.std.specs.Prelude.{◌≡◌};
@@ -11,7 +12,8 @@ ghost use Rattle.strlib.specs.Pointer.{good_in, pointer, sized, part_at};
 pub use checks::{
     both, check, check_characters, check_good, check_into, check_readable, check_store,
 };
-pub use lists::{check_all_clear, check_all_good, check_all_readable};
+pub use lists::{StrList, check_all_clear, check_all_good, check_all_readable};
+pub use refusal::Refusal;
 pub use strings::{are_characters, is_clear, is_within, text};
 
 // A string pointer of document 01: where a string starts in its store, its length, and the maximum that its room takes.
@@ -22,16 +24,6 @@ pub struct StrPtr {
     pub start: usize,
     pub length: usize,
     pub maximum: usize,
-}
-
-// A list: the first `count` of these, the count being passed beside it.
-pub type StrList = [StrPtr; StrPtr::LIST_MAX];
-
-// The answer of a call that gives a string pointer and nothing more.
-#[derive(Clone, Copy)]
-pub enum StrAnswer {
-    Given(StrPtr),
-    Refused(u8),
 }
 
 impl StrPtr {

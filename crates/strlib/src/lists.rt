@@ -1,71 +1,54 @@
-// The checks over a list: its first `count` pointers, in their order. The language has no function values, so the one
-// loop is told by a refusal's number which test it makes.
-ghost use Rattle.std.specs.Prelude.{◌≡◌, length, take};
-ghost use Rattle.strlib.specs.Inner.{passes};
+// Lists: the first `count` of 32 pointers, and the checks over them, in their order.
+ghost use Rattle.std.specs.Prelude.{◌≡◌, cond, length, take};
 ghost use Rattle.strlib.specs.Pointer.{good_in, readable, clear, all};
-ghost use Rattle.strlib.specs.Refusal.{also};
+ghost use Rattle.strlib.specs.Refusal.{number_found};
 
-use super::{StrList, StrPtr, checks, strings};
+use super::{Refusal, StrPtr, checks, strings};
 
-fn does_pass(number: u8, store: &[u8], room: StrPtr, p: StrPtr) -> bool
-    ensures { result ≡ passes number store.now room p }
-{
-    if number == 1 {
-        return p.is_good(store.len());
+// A list as it is passed. It crosses the C boundary as it is.
+#[repr(C)]
+#[derive(Clone, Copy)]
+pub struct StrList {
+    pub items: [StrPtr; StrPtr::LIST_MAX],
+    pub count: usize,
+}
+
+impl StrList {
+    // The strings that are listed, 32 at most.
+    pub fn strings(&self) -> &[StrPtr]
+        ensures { result.now ≡ take self.now.count self.now.items }
+    {
+        &self.items[..self.count.min(StrPtr::LIST_MAX)]
     }
-    if number == 2 {
-        return strings::is_readable(store, p);
-    }
-    strings::is_clear(room, p)
 }
 
-fn all_pass(number: u8, store: &[u8], room: StrPtr, list: StrList, count: usize) -> bool
-    ensures { result ≡ all (passes number store.now room) (take count list) }
+pub fn check_all_good(store: &[u8], list: &StrList) -> Result<(), Refusal>
+    ensures { number_found result ≡ cond (all (good_in (length store.now)) (take list.now.count list.now.items)) 0 1 }
 {
-    let mut i = 0;
-    while i < count {
-        if StrPtr::LIST_MAX <= i {
-            return true;
-        }
-        let p = list[i];
-        if does_pass(number, store, room, p) {
-            i += 1;
-        } else {
-            return false;
-        }
-    }
-    true
+    checks::check(
+        list.strings().iter().all(|p| p.is_good(store.len())),
+        Refusal::Pointer,
+    )
 }
 
-fn check_all(found: u8, number: u8, store: &[u8], room: StrPtr, list: StrList, count: usize) -> u8
-    ensures { result ≡ also found number (all (passes number store.now room) (take count list)) }
+pub fn check_all_readable(store: &[u8], list: &StrList) -> Result<(), Refusal>
+    ensures { number_found result ≡ cond (all (readable store.now) (take list.now.count list.now.items)) 0 2 }
 {
-    if found != 0 {
-        return found;
-    }
-    checks::check(found, number, all_pass(number, store, room, list, count))
+    checks::check(
+        list.strings()
+            .iter()
+            .all(|p| strings::is_readable(store, *p)),
+        Refusal::Character,
+    )
 }
 
-pub fn check_all_good(found: u8, store: &[u8], list: StrList, count: usize) -> u8
-    ensures { result ≡ also found 1 (all (good_in (length store.now)) (take count list)) }
+pub fn check_all_clear(destination: StrPtr, list: &StrList) -> Result<(), Refusal>
+    ensures { number_found result ≡ cond (all (clear destination) (take list.now.count list.now.items)) 0 5 }
 {
-    check_all(found, 1, store, StrPtr::full(0, 0), list, count)
-}
-
-pub fn check_all_readable(found: u8, store: &[u8], list: StrList, count: usize) -> u8
-    ensures { result ≡ also found 2 (all (readable store.now) (take count list)) }
-{
-    check_all(found, 2, store, StrPtr::full(0, 0), list, count)
-}
-
-pub fn check_all_clear(
-    found: u8,
-    store: &[u8],
-    destination: StrPtr,
-    list: StrList,
-    count: usize,
-) -> u8
-    ensures { result ≡ also found 5 (all (clear destination) (take count list)) }
-{
-    check_all(found, 5, store, destination, list, count)
+    checks::check(
+        list.strings()
+            .iter()
+            .all(|p| strings::is_clear(destination, *p)),
+        Refusal::Overlap,
+    )
 }

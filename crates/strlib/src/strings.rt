@@ -1,5 +1,5 @@
 // What a pointer names in a store. Each function takes any pointer, good or not.
-ghost use Rattle.std.specs.Prelude.{◌≡◌, max};
+ghost use Rattle.std.specs.Prelude.{◌≡◌};
 ghost use Rattle.strlib.specs.Pointer.{text_of, characters, readable, within, apart, clear};
 
 use super::StrPtr;
@@ -10,18 +10,10 @@ pub fn are_characters(bytes: &[u8]) -> bool
     ensures { result ≡ characters bytes.now }
 {
     let mut greatest = 0;
-    let mut i = 0;
-    while i < bytes.len() {
-        greatest = larger(greatest, bytes[i]);
-        i += 1;
+    for byte in bytes {
+        greatest = (*byte).max(greatest);
     }
     greatest <= StrPtr::CHARACTER_MAX
-}
-
-fn larger(a: u8, b: u8) -> u8
-    ensures { result ≡ max a b }
-{
-    if a < b { b } else { a }
 }
 
 // The characters of a string; of a pointer that is not good, what of them lies in the store.

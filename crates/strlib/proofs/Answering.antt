@@ -1,0 +1,55 @@
+-- Laws of the code's refusals: what a `?` that leaves a function answers, and what is known behind one that does not.
+-- Assumes nothing.
+use Rattle.std.proofs.Common.{ℕ, zero, suc, ◌≡◌, refl, sym, ap, ◌∙◌, cond, Bool, true, false, List, [], ◌∷◌, ◌++◌, Result, Ok, Err, arith, rules, ltb}
+use Rattle.std.specs.Result.{IsErrAnd}
+use Rattle.std.proofs.lemmas.Result.{err_from_is_err_and}
+use Rattle.strlib.specs.Refusal.{Outcome, Sought, refused, gives, first, outcome, after, ruled, refusal_number, number_found, answered, sought_answered}
+use Rattle.strlib.specs.declared.refusal.Refusal.{Refusal}
+use Rattle.strlib.proofs.Refusing.{numbered, first_before, first_behind, outcome_no, outcome_yes, ruled_no, ruled_yes}
+
+pub refusal_some : (e : Refusal) → refusal_number e ≡ 0 → ⊥
+refusal_some e h = grind arith
+
+-- ---- one check, and those behind it
+
+pub here : (e : Refusal) (b : Bool) (n k : ℕ) → refusal_number e ≡ cond b 0 n → refusal_number e ≡ cond b k n
+here e true n k h = absurd (refusal_some e h)
+here e false n k h = h
+
+pub next : (b : Bool) (n x k : ℕ) → 0 ≡ cond b 0 (suc n) → x ≡ k → x ≡ cond b k (suc n)
+next true n x k h e = e
+next false n x k h e = absurd (omega (arith, h))
+
+-- ---- a list of checks, and those behind it
+
+pub here_all : (e : Refusal) (cs ds : List (ℕ × Bool)) → refusal_number e ≡ first cs → refusal_number e ≡ first (cs ++ ds)
+here_all e cs ds h = first_before cs ds (refusal_number e) h (refusal_some e)
+
+pub next_all : (cs ds : List (ℕ × Bool)) → numbered cs ≡ true → (x : ℕ) → 0 ≡ first cs → x ≡ first ds → x ≡ first (cs ++ ds)
+next_all cs ds n x h e = e ∙ sym (first_behind cs ds n (sym h))
+
+-- ---- where a `?` leaves the function, its refusal goes out as it came
+
+module _ {A : Type 0} (r : Result A Refusal) (e : Refusal) (p : IsErrAnd r (λ x. x ≡ e)) (k : ℕ) (h : refusal_number e ≡ k) where
+  left : r ≡ Err e
+  left = let q = err_from_is_err_and r p in rw (← q.2) q.1
+
+  pub stop : number_found r ≡ k
+  stop = rw left h
+
+  pub outcome_left : (x : A) → answered r ≡ outcome k x
+  outcome_left x = rw left (outcome_no (refusal_number e) k h x (refusal_some e))
+
+  pub ruled_left : (x : A) (new old : List ℕ) → (answered r, old) ≡ ruled k x new old
+  ruled_left x new old = rw left (ruled_no (refusal_number e) k h x new old (refusal_some e))
+
+-- ---- where it does not
+
+module _ {A : Type 0} (k : ℕ) (x y : A) (h : 0 ≡ k) (e : x ≡ y) where
+  pub outcome_right : gives x ≡ outcome k y
+  outcome_right = outcome_yes 0 k h x y refl e
+
+  pub ruled_right : (t new old : List ℕ) → t ≡ new → (gives x, t) ≡ ruled k y new old
+  ruled_right t new old p = ruled_yes 0 k h x y t new old refl e p
+
+pub ruleset answer_laws = (rules, stop, here, next, here_all, next_all, outcome_left, ruled_left, outcome_right, ruled_right)

@@ -7,11 +7,7 @@ pub(super) fn paste(store: &mut [u8], at: usize, bytes: &[u8])
     requires { at + length bytes.now ≤ length store.old }
     ensures { store.new ≡ put store.old at bytes.now }
 {
-    let mut i = 0;
-    while i < bytes.len() {
-        store[at + i] = bytes[i];
-        i += 1;
-    }
+    store[at..at + bytes.len()].copy_from_slice(bytes);
 }
 
 // Writes the bytes of a slice.

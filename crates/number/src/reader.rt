@@ -66,7 +66,7 @@ fn read_digits(negative: bool, digits: &[u8], base: usize) -> Result<i64, Refusa
     requires { is_base base ≡ true }
     ensures { answered result ≡ reads (are_digits base digits.now) (signed negative (value base 0 digits.now)) }
 {
-    strlib::check(digits.len() != 0, Refusal::NoNumber)?;
+    strlib::check(0 < digits.len(), Refusal::NoNumber)?;
     let mut v = 0;
     for c in digits {
         strlib::check(is_digit(*c, base), Refusal::NoNumber)?;

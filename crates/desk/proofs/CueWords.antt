@@ -1,7 +1,7 @@
 -- Laws of the words of a cue line: the loop puts them into a list one by one, and tested in their places they show the
 -- first that is wrong. Assumes nothing.
 use mathlib.Core.Path.{◌≡◌, refl, sym, ap, ◌∙◌}
-use mathlib.Core.Bool.{Bool, true, false}
+use mathlib.Core.Bool.{Bool, true, false, cond}
 use mathlib.Core.List.{List, [], ◌∷◌, ◌++◌, append_assoc, append-nil}
 use Prim.Native.Nat.{ℕ, suc, ◌+◌, ◌-◌, ◌≤◌, ◌<◌}
 use native.Mathlib.Numerals.{add-one}
@@ -11,16 +11,20 @@ use borrow.Author.Tests.{ltb-true, ltb-false, le-leb, lt-leb, eq-eqb, ne_eqb}
 use lib.Dec.{leb, eqb, ltb}
 use lib.ListN.{length, get_or, set, take, length-set}
 use lib.Seq.{take_all, take-suc-set}
+use Rattle.std.proofs.Common.{Result, Ok, Err}
+use Rattle.std.specs.Result.{IsErrAnd}
+use Rattle.strlib.proofs.Answering.{refusal_some}
 use Rattle.strlib.proofs.Pointing.{text_length}
-use Rattle.strlib.proofs.Refusing.{first_is}
 use Rattle.strlib.specs.Pointer.{pointer, text_of}
 use Rattle.strlib.specs.Quoted.{bytes}
-use Rattle.strlib.specs.Refusal.{also}
+use Rattle.strlib.specs.Refusal.{refusal_number}
 use Rattle.strlib.specs.declared.StrPtr.{StrPtr}
 use Rattle.words.proofs.Wording.{first_words_none, first_words_more, word_no, word_some, words_good}
 use Rattle.words.specs.Words.{words, same, pointer_of, next_word, first_words}
 use Rattle.words.specs.declared.Piece.{Piece}
-use Rattle.desk.specs.Cue.{formed_checks, wrong_word}
+use Rattle.desk.proofs.Refused.{err_is}
+use Rattle.desk.specs.CueInner.{fault_found, formless}
+use Rattle.desk.specs.declared.cue.CueFault.{CueFault}
 
 -- ---- the loop
 
@@ -69,11 +73,11 @@ module _ (s : List ℕ) where
     text_is : (k : ℕ) → k < 8 → (d : StrPtr) → text_of s (get_or l k d) ≡ get_or (words s) k []
     text_is k h d = rw e (word_no 8 s 0 k d h)
 
-    there_is : (k : ℕ) → k < 8 → (d : StrPtr) → leb 1 (get_or l k d).length ≡ leb 1 (length (get_or (words s) k []))
+    pub there_is : (k : ℕ) → k < 8 → (d : StrPtr) → leb 1 (get_or l k d).length ≡ leb 1 (length (get_or (words s) k []))
     there_is k h d = rw e (word_some 8 s 0 k d h) ∙ sym (word_there k h)
 
     -- no eighth word
-    none_is : (d : StrPtr) → eqb (get_or l 7 d).length 0 ≡ leb (length (words s)) 7
+    pub none_is : (d : StrPtr) → eqb (get_or l 7 d).length 0 ≡ leb (length (words s)) 7
     none_is d = go (get_or l 7 d).length (ltb 7 (length (words s))) refl (rw e (word_some 8 s 0 7 d (omega arith)))
       where
         go : (n : ℕ) (t : Bool) → ltb 7 (length (words s)) ≡ t → ltb 0 n ≡ ltb 7 (length (words s)) → eqb n 0 ≡ leb (length (words s)) 7
@@ -84,22 +88,34 @@ module _ (s : List ℕ) where
             let u : n ≤ 0 = ltb-false 0 n (q ∙ p) in
             eq-eqb n 0 (omega arith) ∙ sym (le-leb (length (words s)) 7 (ltb-false 7 (length (words s)) p))
 
-    pub wrong_by : (d₁ d₂ d₃ d₄ d₅ d₆ d₇ d₈ : StrPtr) (a b c d : Bool) (f₁ f₂ f₃ f₄ f₅ f₆ f₇ r : ℕ)
-        → a ≡ same (text_of s (get_or l 0 d₁)) (bytes "MIC") → f₁ ≡ also 0 1 a → f₂ ≡ also f₁ 2 (leb 1 (get_or l 1 d₂).length)
-        → b ≡ same (text_of s (get_or l 2 d₃)) (bytes "TO") → f₃ ≡ also f₂ 3 b
-        → c ≡ same (text_of s (get_or l 3 d₄)) (bytes "LSP") → f₄ ≡ also f₃ 4 c → f₅ ≡ also f₄ 5 (leb 1 (get_or l 4 d₅).length)
-        → d ≡ same (text_of s (get_or l 5 d₆)) (bytes "GAIN") → f₆ ≡ also f₅ 6 d → f₇ ≡ also f₆ 7 (leb 1 (get_or l 6 d₇).length)
-        → r ≡ also f₇ 8 (eqb (get_or l 7 d₈).length 0) → r ≡ wrong_word s
-    unfolding wrong_word
-    wrong_by d₁ d₂ d₃ d₄ d₅ d₆ d₇ d₈ a b c d f₁ f₂ f₃ f₄ f₅ f₆ f₇ r ea e₁ e₂ eb e₃ ec e₄ e₅ ed e₆ e₇ er =
-        let ta : a ≡ same (get_or (words s) 0 []) (bytes "MIC") = ea ∙ rw (text_is 0 (omega arith) d₁) in
-        let tb : b ≡ same (get_or (words s) 2 []) (bytes "TO") = eb ∙ rw (text_is 2 (omega arith) d₃) in
-        let tc : c ≡ same (get_or (words s) 3 []) (bytes "LSP") = ec ∙ rw (text_is 3 (omega arith) d₄) in
-        let td : d ≡ same (get_or (words s) 5 []) (bytes "GAIN") = ed ∙ rw (text_is 5 (omega arith) d₆) in
-        first_is (formed_checks s) refl r
-        (er ∙ rw (e₇, e₆, e₅, e₄, e₃, e₂, e₁, none_is d₈, there_is 6 (omega arith) d₇, there_is 4 (omega arith) d₅, there_is 1 (omega arith) d₂, ta, tb, tc, td))
+    -- the code's tests are the rule's
+    pub fixed_is : (k : ℕ) → k < 8 → (d : StrPtr) (y : List ℕ) (t : Bool) → t ≡ same (text_of s (get_or l k d)) y → t ≡ same (get_or (words s) k []) y
+    fixed_is k h d y t q = q ∙ rw (text_is k h d)
+
+-- a fault's number and word
+abbrev fault : CueFault → ℕ × ℕ
+fault f = (refusal_number f.refusal, f.word)
+
+pub word_stop : {A : Type 0} (r : Result A CueFault) (f : CueFault) → IsErrAnd r (λ x. x ≡ f) → (k : ℕ × ℕ) → fault f ≡ k → fault_found r ≡ k
+word_stop r f p k h = rw (err_is r f p) h
+
+-- one test, and those behind it
+pub word_here : (f : CueFault) (t b : Bool) (n k : ℕ) → fault f ≡ cond t (0, 0) (11, suc n) → t ≡ b → fault f ≡ formless (cond b k (suc n))
+word_here f true b n k e q = absurd (refusal_some f.refusal (ap (λ (x : ℕ × ℕ). x.0) e))
+word_here f false b n k e q = rw (← q) e
+
+pub word_next : (t b : Bool) (n k : ℕ) (x : ℕ × ℕ) → ◌≡◌ {A = ℕ × ℕ} (0, 0) (cond t (0, 0) (11, suc n)) → t ≡ b → x ≡ formless k → x ≡ formless (cond b k (suc n))
+word_next true b n k x e q r = rw (← q) r
+word_next false b n k x e q r = let z : ◌≡◌ {A = ℕ} 0 11 = ap (λ (x : ℕ × ℕ). x.0) e in absurd (omega arith)
+
+-- the last test
+pub word_last : (r : Result Unit CueFault) (t b : Bool) (n : ℕ) → fault_found r ≡ cond t (0, 0) (11, suc n) → t ≡ b → fault_found r ≡ formless (cond b 0 (suc n))
+word_last r true b n e q = rw (← q) e
+word_last r false b n e q = rw (← q) e
 
 pub word_same : (s : List ℕ) (p : StrPtr) (t y : List ℕ) (b : Bool) → t ≡ text_of s p → b ≡ same t y → b ≡ same (text_of s p) y
 word_same s p t y b e f = rw (← e) f
 
 pub ruleset word_laws = (rules, word_same)
+
+pub ruleset form_laws = (rules, word_stop, word_here, word_next, word_last, fixed_is, there_is, none_is)

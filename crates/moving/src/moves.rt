@@ -3,7 +3,15 @@ ghost use Rattle.std.specs.Prelude.{◌≡◌, ◌+◌, ◌-◌, ◌%◌, ◌<�
 ghost use Rattle.strlib.specs.Store.{put};
 ghost use Rattle.moving.specs.Moving.{moved};
 
-use super::bytes::paste;
+// Byte by byte: with `copy_from_slice` a step of 64 was compiled to two copies, into its block and out of it.
+fn paste(store: &mut [u8], at: usize, bytes: &[u8])
+    requires { at + length bytes.now ≤ length store.old }
+    ensures { store.new ≡ put store.old at bytes.now }
+{
+    for (i, byte) in bytes.iter().enumerate() {
+        store[at + i] = *byte;
+    }
+}
 
 // A step, as wide as the block, whatever that holds: all characters are read before one is written, so that it is right
 // for every distance. Compiled, a step of eight is one move of eight bytes. The steps are told apart as 02, W3 and the

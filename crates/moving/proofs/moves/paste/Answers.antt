@@ -1,5 +1,8 @@
-use Rattle.moving.proofs.Writing.{write_laws}
-use Rattle.moving.proofs.bytes.paste.Goals as goal
+use Rattle.moving.proofs.Pasting.{paste_laws}
+use Rattle.moving.proofs.moves.paste.Goals as goal
+
+pub loop-i-preserved : goal.loop-i-preserved
+loop-i-preserved c = search paste_laws
 
 pub returns : goal.returns
-returns c = search write_laws
+returns c = search paste_laws

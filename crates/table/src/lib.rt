@@ -30,6 +30,7 @@ pub struct Progress {
 }
 
 impl Progress {
+    #[tactic(auto, unfolding(search::specs::Inner::placed))]
     pub fn note(self) -> Option<Note>
         ensures { noted_as result ≡ note_of self.last }
     {
@@ -65,6 +66,7 @@ fn size_of(table: &[u16]) -> usize
 }
 
 // The state is entered: its string, if it has one, is noted. None if its words are no table's.
+#[tactic(auto, using(crate::proofs::Walking::enter_pos), unfolding(crate::specs::Run::enter, search::specs::Inner::placed))]
 fn enter(table: &[u16], size: usize, at: Progress) -> Option<Progress>
     requires { Entered table.now size at.state at.read }
     ensures { walked_of result ≡ enter table.now at.state at.read (note_of at.last) }
@@ -97,6 +99,7 @@ fn enter(table: &[u16], size: usize, at: Progress) -> Option<Progress>
 }
 
 // One character is read and the next state entered.
+#[tactic(auto, using(crate::proofs::Walking::step_pos), unfolding(crate::specs::Run::step))]
 fn step(table: &[u16], size: usize, at: Progress, c: u8) -> Option<Progress>
     requires { Entered table.now size at.state (at.read + 1) × (c ≤ 127) × (at.state ≡ 0 → ⊥) }
     ensures { walked_of result ≡ step table.now size (rests_of at) c }

@@ -60,6 +60,7 @@ fn run_over(text: &[u8], table: &[u16]) -> Option<Progress>
 }
 
 // The run of a table over a host.
+#[tactic(auto, using(crate::proofs::Running::run_laws))]
 pub fn run(store: &[u8], host: StrPtr, table: &[u16]) -> Result<Ran, Refusal>
     ensures { ran_answered result ≡ run_rule store.now host table.now }
 {

@@ -5,6 +5,11 @@ ghost use Rattle.editing.specs.Reversing.{reverse_refusal, reverse_rule, reverse
 
 use strlib::{Refusal, StrPtr};
 
+#[tactic(
+    auto,
+    using(strlib::proofs::Answering::answer_laws),
+    unfolding(crate::specs::Reversing::reverse_refusal)
+)]
 fn check_reverse(store: &[u8], string: StrPtr) -> Result<(), Refusal>
     ensures { number_found result ≡ reverse_refusal store.now string }
 {
@@ -21,6 +26,11 @@ pub fn reverse(store: &mut [u8], string: StrPtr) -> Result<StrPtr, Refusal>
     Ok(string)
 }
 
+#[tactic(
+    auto,
+    using(strlib::proofs::Answering::answer_laws),
+    unfolding(crate::specs::Reversing::reverse_from_refusal, strlib::specs::Checks::into_refusal)
+)]
 fn check_reverse_from(store: &[u8], destination: StrPtr, source: StrPtr) -> Result<(), Refusal>
     ensures { number_found result ≡ reverse_from_refusal store.now destination source }
 {

@@ -1,19 +1,16 @@
 -- Laws of the text of an answer, which is put together from its parts, and of the counters. Assumes nothing.
 use Rattle.std.proofs.Common.{Result, Ok, Err, Bool, min, ◌^◌}
-use mathlib.Core.Path.{◌≡◌, refl, sym, ap}
+use mathlib.Core.Path.{◌≡◌, refl, sym, ap, ◌∙◌}
 use mathlib.Core.Bool.{true}
 use mathlib.Core.List.{List, ◌++◌}
-use Prim.Native.Nat.{ℕ, ◌+◌, ◌-◌, ◌≤◌, ◌<◌}
-use native.Mathlib.Omega.{arith}
+use Prim.Native.Nat.{ℕ, ◌+◌, ◌-◌}
 use borrow.Author.Rules.{rules}
 use lib.IntN.{ℤ}
-use mir.Syntax.{w64}
-use mir.Val.{Fits}
 use Rattle.number.specs.Limits.{in_range}
 use Rattle.number.specs.Written.{digits, written}
 use Rattle.strlib.specs.Quoted.{bytes}
 use Rattle.std.specs.Result.{is_ok}
-use Rattle.core.specs.Int.{from_bool}
+use mir.Val.{bool_byte}
 use Rattle.strlib.specs.Refusal.{Outcome, refused, gives, refusal_number}
 use Rattle.desk.proofs.CueGiven.{cue_given, gain_in_range}
 use Rattle.desk.specs.Cue.{cue_answered, cue_word_rule}
@@ -50,10 +47,10 @@ module _ (b : List ℕ) (n : ℕ) (b' : List ℕ) (r : ℕ) (a : Result Cue CueF
   unfolding cue_text
   cue_ok c e g = rw e g
 
-  pub cue_not : (f : CueFault) → a ≡ Err f → (k : ℕ) → k ≡ refusal_number f.refusal → (r, b') ≡ grown b n (bytes " refused " ++ digits 10 k)
+  pub cue_not : (f : CueFault) → a ≡ Err f → (j k : ℕ) → j ≡ refusal_number f.refusal → k ≡ j → (r, b') ≡ grown b n (bytes " refused " ++ digits 10 k)
       → (r, b') ≡ grown b n (cue_text (cue_answered a))
   unfolding cue_text
-  cue_not f e k q g = rw (e, ← q) g
+  cue_not f e j k p q g = rw (e, ← p, ← q) g
 
 pub cue_writable : (a : Result Cue CueFault) (c : Cue) → writable (cue_answered a) ≡ true → a ≡ Ok c → in_range c.gain ≡ true
 unfolding writable
@@ -73,7 +70,7 @@ unfolding counted
 counted_sum n r e = e
 
 -- a line counts as good where its cue is given
-pub counted_good : (n r k : ℕ) (a : Result Cue CueFault) (ok : Bool) → ok ≡ is_ok a → k ≡ from_bool ok → r ≡ min (n + k) (2 ^ 64 - 1)
+pub counted_good : (n r k : ℕ) (a : Result Cue CueFault) (ok : Bool) → ok ≡ is_ok a → k ≡ bool_byte ok → r ≡ min (n + k) (2 ^ 64 - 1)
     → r ≡ counted (n + good_of (cue_answered a))
 unfolding counted good_of
 counted_good n r k (Ok c) ok e f g = let q : k ≡ 1 = f ∙ rw e in rw q at g

@@ -13,12 +13,13 @@ use mir.Val.{Fits}
 use borrow.Author.Rules.{rules}
 use Rattle.strlib.specs.Checks.{into_checks, into_refusal}
 use Rattle.strlib.specs.Pointer.{sized, text_of, clear}
-use Rattle.strlib.specs.Refusal.{refused, gives, also, outcome, after, ruled}
+use Rattle.strlib.specs.Refusal.{gives, outcome, after, ruled}
 use Rattle.strlib.specs.Store.{put}
 use Rattle.strlib.specs.declared.StrPtr.{StrPtr}
 use Rattle.strlib.proofs.Pointing.{good_is, text_length, leb_same}
-use Rattle.strlib.proofs.Checking.{first_on, first_both, IntoPassed, into_passed}
-use Rattle.strlib.proofs.Refusing.{passed, ruled_no, ruled_yes}
+use Rattle.strlib.proofs.Checking.{first_both, IntoPassed, into_passed}
+use Rattle.strlib.proofs.Answering.{ruled_right}
+use Rattle.strlib.proofs.Refusing.{passed}
 use Rattle.strlib.proofs.Storing.{take_min, take_append, put_kept}
 use Rattle.moving.specs.Moving.{moved}
 use Rattle.moving.proofs.Moving.{moved_in}
@@ -27,12 +28,6 @@ use Rattle.copying.specs.declared.Wrote.{Wrote}
 use Rattle.copying.proofs.Padding.{bounded}
 
 -- ---- the checks
-
-pub copy_checked : (s : List ℕ) (destination source : StrPtr) (found : ℕ) → found ≡ into_refusal s destination source
-    → (ok : Bool) → ok ≡ clear destination source → (k : ℕ) → k ≡ also found 5 ok → k ≡ copy_refusal s destination source
-unfolding copy_refusal into_refusal
-copy_checked s destination source found e ok f k g =
-    first_on (into_checks s destination source) ((5, clear destination source) ∷ []) refl refl found k e (rw (g, f))
 
 -- what is known where they find nothing
 pub record CopyPassed (s : List ℕ) (destination source : StrPtr) : Type 0 where
@@ -48,81 +43,72 @@ copy_passed s destination source z =
 
 -- ---- the calls
 
-module _ (s : List ℕ) (destination source : StrPtr) (k : ℕ) (e : k ≡ copy_refusal s destination source) where
-  pub copy_refused : (pad : Bool) → (k ≡ 0 → ⊥) → (refused k, s) ≡ copy_rule s destination source pad
-  unfolding copy_rule bounded_copy
-  copy_refused pad h = ruled_no k (copy_refusal s destination source) e _ _ s h
+module _ (s : List ℕ) (destination source : StrPtr) (e : ◌≡◌ {A = ℕ} 0 (copy_refusal s destination source)) where
+  ok : IntoPassed s destination source
+  ok = (copy_passed s destination source (sym e)).into
 
-  pub append_refused : (k ≡ 0 → ⊥) → (refused k, s) ≡ append_rule s destination source
-  unfolding append_rule bounded_copy
-  append_refused h = ruled_no k (copy_refusal s destination source) e _ _ s h
+  to_room : (destination.length ≤ destination.maximum) × (destination.start + destination.maximum ≤ length s)
+  to_room = good_is (length s) destination ok.room
 
-  module _ (z : k ≡ 0) where
-    ok : IntoPassed s destination source
-    ok = (copy_passed s destination source (sym e ∙ z)).into
+  from_room : (source.length ≤ source.maximum) × (source.start + source.maximum ≤ length s)
+  from_room = good_is (length s) source ok.part
 
-    to_room : (destination.length ≤ destination.maximum) × (destination.start + destination.maximum ≤ length s)
-    to_room = good_is (length s) destination ok.room
+  -- ---- copy
 
-    from_room : (source.length ≤ source.maximum) × (source.start + source.maximum ≤ length s)
-    from_room = good_is (length s) source ok.part
+  module _ (n : ℕ) (m : n ≡ min source.length destination.maximum) where
+    pub copy_done : (pad : Bool) (r : Wrote) (t t' : List ℕ) → t ≡ moved s source.start destination.start n
+        → (r, t') ≡ finished t destination n pad (leb source.length destination.maximum) → (gives r, t') ≡ copy_rule s destination source pad
+    unfolding copy_rule text_of
+    copy_done pad r t t' p q =
+        let l : length (text_of s source) ≡ source.length = text_length s source ok.part in
+        let cut : take n (drop source.start s) ≡ take destination.maximum (text_of s source) = rw m (sym (take_min destination.maximum source.length (drop source.start s))) in
+        let moves : t ≡ put s destination.start (take destination.maximum (text_of s source)) =
+        p ∙ moved_in s source.start destination.start n (omega (arith, from_room, m)) (omega (arith, to_room, m)) ∙ rw cut in
+        bounded (copy_refusal s destination source) s destination (text_of s source) pad (leb source.length destination.maximum) n r t' e ok.room
+        (rw (length-take, l) (omega (arith, m))) (rw l) (q ∙ rw moves)
 
-    -- ---- copy
+  -- ---- append
 
-    module _ (n : ℕ) (m : n ≡ min source.length destination.maximum) where
-      pub copy_done : (pad : Bool) (r : Wrote) (t t' : List ℕ) → t ≡ moved s source.start destination.start n
-          → (r, t') ≡ finished t destination n pad (leb source.length destination.maximum) → (gives r, t') ≡ copy_rule s destination source pad
-      unfolding copy_rule text_of
-      copy_done pad r t t' p q =
-          let l : length (text_of s source) ≡ source.length = text_length s source ok.part in
-          let cut : take n (drop source.start s) ≡ take destination.maximum (text_of s source) = rw m (sym (take_min destination.maximum source.length (drop source.start s))) in
-          let moves : t ≡ put s destination.start (take destination.maximum (text_of s source)) =
-          p ∙ moved_in s source.start destination.start n (omega (arith, from_room, m)) (omega (arith, to_room, m)) ∙ rw cut in
-          bounded k (copy_refusal s destination source) s destination (text_of s source) pad (leb source.length destination.maximum) n r t' e z ok.room
-          (rw (length-take, l) (omega (arith, m))) (rw l) (q ∙ rw moves)
+  pub append_sub : destination.length ≤ destination.maximum
+  append_sub = to_room.0
 
-    -- ---- append
+  pub append_fits : Fits w64 (destination.start + destination.length)
+  append_fits = omega (arith, to_room, ok.small)
 
-    pub append_sub : destination.length ≤ destination.maximum
-    append_sub = to_room.0
+  module _ (n : ℕ) (m : n ≡ min source.length (destination.maximum - destination.length)) where
+    pub append_sum : Fits w64 (destination.length + n)
+    append_sum = omega (arith, to_room, ok.small, m)
 
-    pub append_fits : Fits w64 (destination.start + destination.length)
-    append_fits = omega (arith, to_room, ok.small)
+    xs : List ℕ
+    xs = text_of s destination ++ text_of s source
 
-    module _ (n : ℕ) (m : n ≡ min source.length (destination.maximum - destination.length)) where
-      pub append_sum : Fits w64 (destination.length + n)
-      append_sum = omega (arith, to_room, ok.small, m)
+    long : length xs ≡ destination.length + source.length
+    unfolding xs
+    long = rw (length-append, text_length s destination ok.room, text_length s source ok.part)
 
-      xs : List ℕ
-      xs = text_of s destination ++ text_of s source
+    cut : laid destination xs false ≡ text_of s destination ++ take n (drop source.start s)
+    unfolding laid gap xs text_of
+    cut =
+        let l : length (text_of s destination) ≡ destination.length = text_length s destination ok.room in
+        let a : take destination.maximum (text_of s destination) ≡ text_of s destination = take_all destination.maximum (text_of s destination) (omega (arith, to_room)) in
+        rw (append-nil, take_append, a, l, take_min, ← m)
 
-      long : length xs ≡ destination.length + source.length
-      unfolding xs
-      long = rw (length-append, text_length s destination ok.room, text_length s source ok.part)
+    pub append_done : (to : StrPtr) (t : List ℕ) → t ≡ moved s source.start (destination.start + destination.length) n → to ≡ sized destination (destination.length + n)
+        → (gives (record { to = to; completed = leb source.length (destination.maximum - destination.length) }), t) ≡ append_rule s destination source
+    unfolding append_rule bounded_copy wrote xs text_of
+    append_done to t p q =
+        let w : length (take n (drop source.start s)) ≡ n = rw (length-take, length-drop) (omega (arith, from_room, m)) in
+        let g : length (laid destination xs false) ≡ destination.length + n = rw (cut, length-append, text_length s destination ok.room, w) in
+        let b : leb source.length (destination.maximum - destination.length) ≡ leb (length xs) destination.maximum =
+        leb_same source.length (destination.maximum - destination.length) (length xs) destination.maximum (λ h. omega (arith, long, to_room)) (λ h. omega (arith, long, to_room)) in
+        let moves : t ≡ put s (destination.start + destination.length) (take n (drop source.start s)) =
+        p ∙ moved_in s source.start (destination.start + destination.length) n (omega (arith, from_room, m)) (omega (arith, to_room, m)) in
+        ruled_right _ _ _ e (rw (q, g, b)) t _ s
+        (moves ∙ rw (cut) (put_kept s destination.start destination.length (take n (drop source.start s)) (omega (arith, to_room))))
 
-      cut : laid destination xs false ≡ text_of s destination ++ take n (drop source.start s)
-      unfolding laid gap xs text_of
-      cut =
-          let l : length (text_of s destination) ≡ destination.length = text_length s destination ok.room in
-          let a : take destination.maximum (text_of s destination) ≡ text_of s destination = take_all destination.maximum (text_of s destination) (omega (arith, to_room)) in
-          rw (append-nil, take_append, a, l, take_min, ← m)
+pub ruleset copy_laws = (rules, copy_done)
 
-      pub append_done : (to : StrPtr) (t : List ℕ) → t ≡ moved s source.start (destination.start + destination.length) n → to ≡ sized destination (destination.length + n)
-          → (gives (record { to = to; completed = leb source.length (destination.maximum - destination.length) }), t) ≡ append_rule s destination source
-      unfolding append_rule bounded_copy wrote xs text_of
-      append_done to t p q =
-          let w : length (take n (drop source.start s)) ≡ n = rw (length-take, length-drop) (omega (arith, from_room, m)) in
-          let g : length (laid destination xs false) ≡ destination.length + n = rw (cut, length-append, text_length s destination ok.room, w) in
-          let b : leb source.length (destination.maximum - destination.length) ≡ leb (length xs) destination.maximum =
-          leb_same source.length (destination.maximum - destination.length) (length xs) destination.maximum (λ h. omega (arith, long, to_room)) (λ h. omega (arith, long, to_room)) in
-          let moves : t ≡ put s (destination.start + destination.length) (take n (drop source.start s)) =
-          p ∙ moved_in s source.start (destination.start + destination.length) n (omega (arith, from_room, m)) (omega (arith, to_room, m)) in
-          ruled_yes k (copy_refusal s destination source) e _ _ t _ s z (rw (q, g, b))
-          (moves ∙ rw (cut) (put_kept s destination.start destination.length (take n (drop source.start s)) (omega (arith, to_room))))
-
-pub ruleset copy_laws = (rules, copy_checked, copy_refused, copy_done)
-
-pub ruleset append_laws = (rules, append_refused, append_sub, append_fits, append_sum, append_done)
+pub ruleset append_laws = (rules, append_sub, append_fits, append_sum, append_done)
 
 -- ---- a padded append
 

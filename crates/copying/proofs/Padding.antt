@@ -15,7 +15,7 @@ use Rattle.strlib.specs.Refusal.{gives}
 use Rattle.strlib.specs.Store.{put}
 use Rattle.strlib.specs.declared.StrPtr.{StrPtr}
 use Rattle.strlib.proofs.Pointing.{within_so, good_is}
-use Rattle.strlib.proofs.Refusing.{ruled_yes}
+use Rattle.strlib.proofs.Answering.{ruled_right}
 use Rattle.strlib.proofs.Storing.{put_length, put_put}
 use Rattle.moving.specs.Moving.{blanked}
 use Rattle.moving.proofs.Blanking.{blanked_in, blanked_out}
@@ -23,19 +23,6 @@ use Rattle.copying.specs.Copying.{gap, laid, wrote, bounded_copy, finished}
 use Rattle.copying.specs.declared.Wrote.{Wrote}
 
 -- ---- the gap
-
-module _ (pad : Bool) (old n : ℕ) where
-  pub gap_some : pad ≡ true → n ≤ old → old - n ≡ gap pad old n
-  unfolding gap
-  gap_some e h = rw e
-
-  pub gap_none : pad ≡ true → old < n → 0 ≡ gap pad old n
-  unfolding gap
-  gap_none e h = let z : old - n ≡ 0 = omega arith in rw (e, z)
-
-  pub gap_off : pad ≡ false → 0 ≡ gap pad old n
-  unfolding gap
-  gap_off e = rw e
 
 pub gap_le : (pad : Bool) (old n : ℕ) → gap pad old n ≤ old - n
 unfolding gap
@@ -60,11 +47,11 @@ unfolding finished
 end_done s destination n pad g e completed to t p q = rw (p, q, e)
 
 -- the cut characters xs are written, and padded: the answer, and the store
-pub bounded : (k m : ℕ) (s : List ℕ) (destination : StrPtr) (xs : List ℕ) (pad completed : Bool) (n : ℕ) (r : Wrote) (t : List ℕ)
-    → k ≡ m → k ≡ 0 → good_in (length s) destination ≡ true → n ≡ length (take destination.maximum xs) → completed ≡ leb (length xs) destination.maximum
+pub bounded : (m : ℕ) (s : List ℕ) (destination : StrPtr) (xs : List ℕ) (pad completed : Bool) (n : ℕ) (r : Wrote) (t : List ℕ)
+    → ◌≡◌ {A = ℕ} 0 m → good_in (length s) destination ≡ true → n ≡ length (take destination.maximum xs) → completed ≡ leb (length xs) destination.maximum
     → (r, t) ≡ finished (put s destination.start (take destination.maximum xs)) destination n pad completed → (gives r, t) ≡ bounded_copy m s destination xs pad
 unfolding bounded_copy wrote laid finished
-bounded k m s destination xs pad completed n r t e z h l c f =
+bounded m s destination xs pad completed n r t e h l c f =
     let cut : List ℕ = take destination.maximum xs in
     let g : ℕ = gap pad destination.length (length cut) in
     let room = good_is (length s) destination h in
@@ -72,8 +59,9 @@ bounded k m s destination xs pad completed n r t e z h l c f =
     let w : length (put s destination.start cut) ≡ length s = put_length s destination.start cut (omega arith) in
     let b : blanked (put s destination.start cut) (destination.start + length cut) g ≡ put (put s destination.start cut) (destination.start + length cut) (replicate g 32) =
     blanked_in (put s destination.start cut) (destination.start + length cut) g (omega (arith, gap_le pad destination.length (length cut))) in
-    ruled_yes k m e r _ t _ s z
+    ruled_right m r _ e
     (ap (λ (p : Wrote × List ℕ). p.0) f ∙ rw (c, l, length-append, length-replicate))
+    t _ s
     (ap (λ (p : Wrote × List ℕ). p.1) f ∙ rw l (b ∙ put_put s destination.start cut (omega arith) (replicate g 32)))
 
 -- it keeps to the maximum
@@ -83,4 +71,4 @@ laid_fits n destination xs pad g =
     rw (length-append, length-replicate, length-take)
     (omega (arith, good_is n destination g, gap_le pad destination.length (min destination.maximum (length xs))))
 
-pub ruleset pad_laws = (rules, gap_some, gap_none, gap_off, pad_fits, pad_over, end_sum, end_done)
+pub ruleset pad_laws = (rules, pad_fits, pad_over, end_sum, end_done)

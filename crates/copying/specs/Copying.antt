@@ -2,13 +2,11 @@
 use Rattle.std.specs.Prelude.{ℕ, ◌+◌, ◌-◌, ◌≡◌, Bool, true, false, cond, List, [], ◌∷◌, ◌++◌, leb, length, take, replicate}
 use Rattle.strlib.specs.Checks.{into_checks}
 use Rattle.strlib.specs.Pointer.{sized, good_in, text_of, clear}
-use Rattle.strlib.specs.Refusal.{Outcome, refused, gives, first, ruled}
+use Rattle.strlib.specs.Refusal.{Outcome, gives, first, ruled}
 use Rattle.strlib.specs.Store.{put}
 use Rattle.strlib.specs.declared.StrPtr.{StrPtr}
 use Rattle.moving.specs.Moving.{blanked}
 use Rattle.copying.specs.declared.Wrote.{Wrote}
-use Rattle.copying.specs.declared.CopyAnswer.{CopyAnswer}
-use Rattle.copying.specs.declared.CopyAnswer.TheVariants.{Given, Refused}
 
 -- ---- what is written
 
@@ -38,11 +36,6 @@ unfoldable pub finished : List ℕ → StrPtr → ℕ → Bool → Bool → Wrot
 finished s destination n pad completed =
     let g : ℕ = gap pad destination.length n in
     (record { to = sized destination (n + g); completed = completed }, blanked s (destination.start + n) g)
-
--- the paper's value for each case of the answer
-abbrev pub copy_answered : CopyAnswer → Outcome Wrote
-copy_answered (Given w) = gives w
-copy_answered (Refused n) = refused n
 
 -- ---- the calls
 

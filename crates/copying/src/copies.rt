@@ -1,28 +1,31 @@
 // Copy and append of one source.
 ghost use Rattle.std.specs.Prelude.{◌≡◌};
-ghost use Rattle.copying.specs.Copying.{copy_refusal, copy_rule, append_rule, copy_answered};
+ghost use Rattle.strlib.specs.Refusal.{answered, number_found};
+ghost use Rattle.copying.specs.Copying.{copy_refusal, copy_rule, append_rule};
 
-use super::{CopyAnswer, Wrote};
-use strlib::StrPtr;
+use super::Wrote;
+use strlib::{Refusal, StrPtr};
 
-fn copy_refusal(store: &[u8], destination: StrPtr, source: StrPtr) -> u8
-    ensures { result ≡ copy_refusal store.now destination source }
+fn check_copy(store: &[u8], destination: StrPtr, source: StrPtr) -> Result<(), Refusal>
+    ensures { number_found result ≡ copy_refusal store.now destination source }
 {
-    let found = strlib::check_into(store, destination, source);
-    strlib::check(found, 5, strlib::is_clear(destination, source))
+    strlib::check_into(store, destination, source)?;
+    strlib::check(strlib::is_clear(destination, source), Refusal::Overlap)
 }
 
 // The destination then holds the source's characters, cut at its maximum.
-pub fn copy(store: &mut [u8], destination: StrPtr, source: StrPtr, pad: bool) -> CopyAnswer
-    ensures { (copy_answered result, store.new) ≡ copy_rule store.old destination source pad }
+pub fn copy(
+    store: &mut [u8],
+    destination: StrPtr,
+    source: StrPtr,
+    pad: bool,
+) -> Result<Wrote, Refusal>
+    ensures { (answered result, store.new) ≡ copy_rule store.old destination source pad }
 {
-    let number = copy_refusal(store, destination, source);
-    if number != 0 {
-        return CopyAnswer::Refused(number);
-    }
-    let n = moving::least(source.length, destination.maximum);
+    check_copy(store, destination, source)?;
+    let n = source.length.min(destination.maximum);
     moving::move_characters(store, source.start, destination.start, n);
-    CopyAnswer::Given(super::finish(
+    Ok(super::finish(
         store,
         destination,
         n,
@@ -32,19 +35,16 @@ pub fn copy(store: &mut [u8], destination: StrPtr, source: StrPtr, pad: bool) ->
 }
 
 // The destination then holds its own characters and the source's behind them, cut at its maximum.
-pub fn append(store: &mut [u8], destination: StrPtr, source: StrPtr) -> CopyAnswer
-    ensures { (copy_answered result, store.new) ≡ append_rule store.old destination source }
+pub fn append(store: &mut [u8], destination: StrPtr, source: StrPtr) -> Result<Wrote, Refusal>
+    ensures { (answered result, store.new) ≡ append_rule store.old destination source }
 {
-    let number = copy_refusal(store, destination, source);
-    if number != 0 {
-        return CopyAnswer::Refused(number);
-    }
+    check_copy(store, destination, source)?;
     let room = destination.maximum - destination.length;
-    let n = moving::least(source.length, room);
+    let n = source.length.min(room);
     let behind = destination.start + destination.length;
     moving::move_characters(store, source.start, behind, n);
     let to = destination.sized(destination.length + n);
-    CopyAnswer::Given(Wrote {
+    Ok(Wrote {
         to,
         completed: source.length <= room,
     })

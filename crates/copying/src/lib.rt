@@ -18,21 +18,11 @@ pub struct Wrote {
     pub completed: bool,
 }
 
-#[derive(Clone, Copy)]
-pub enum CopyAnswer {
-    Given(Wrote),
-    Refused(u8),
-}
-
 // How many blanks fill n characters to the old length.
 fn gap_of(pad: bool, old: usize, n: usize) -> usize
     ensures { result ≡ gap pad old n }
 {
-    if pad {
-        if n <= old { old - n } else { 0 }
-    } else {
-        0
-    }
+    if pad { old.saturating_sub(n) } else { 0 }
 }
 
 // Writes g blanks from behind the first n bytes of a room on, where these lie in the store.

@@ -125,11 +125,6 @@ unfolding is_blank all
 blanks_more [] = refl
 blanks_more (x ∷ s) = ap (λ (b : Bool). eqb x 32 && b) (blanks_more s)
 
-blanks_other : (s : List ℕ) (y : ℕ) → (y ≡ 32 → ⊥) → is_blank (s ++ (y ∷ [])) ≡ false
-unfolding is_blank all
-blanks_other [] y h = simp (ne_eqb y 32 h)
-blanks_other (x ∷ s) y h = rw (blanks_other s y h) (and-false (eqb x 32))
-
 pub trimmed_blank : (s : List ℕ) → trimmed_length (s ++ (32 ∷ [])) ≡ trimmed_length s
 unfolding trimmed_length is_blank all
 trimmed_blank [] = refl
@@ -139,11 +134,6 @@ pub trimmed_padded : (k : ℕ) (s : List ℕ) → trimmed_length (s ++ replicate
 trimmed_padded zero s = ap trimmed_length (append-nil s)
 trimmed_padded (suc k) s = ap trimmed_length (sym (append_snoc s 32 (replicate k 32))) ∙ trimmed_padded k (s ++ (32 ∷ [])) ∙ trimmed_blank s
 
-trimmed_other : (s : List ℕ) (y : ℕ) → (y ≡ 32 → ⊥) → trimmed_length (s ++ (y ∷ [])) ≡ suc (length s)
-unfolding trimmed_length
-trimmed_other [] y h = rw (blanks_other [] y h)
-trimmed_other (x ∷ s) y h = rw (blanks_other (x ∷ s) y h, trimmed_other s y h)
-
 pub trimmed_le : (s : List ℕ) → trimmed_length s ≤ length s
 unfolding trimmed_length
 trimmed_le [] = omega arith
@@ -152,26 +142,6 @@ trimmed_le (x ∷ s) = go (is_blank (x ∷ s)) (trimmed_le s)
     go : (b : Bool) → trimmed_length s ≤ length s → cond b 0 (suc (trimmed_length s)) ≤ suc (length s)
     go true h = omega arith
     go false h = omega arith
-
-pub trim_start : (s : List ℕ) → trimmed_length s ≡ trimmed_length (take (length s) s)
-trim_start s = rw take-length
-
-module _ (s : List ℕ) (n : ℕ) (e : trimmed_length s ≡ trimmed_length (take n s)) where
-  last : 0 < n → n ≤ length s → take n s ≡ take (n - 1) s ++ (get_or s (n - 1) 0 ∷ [])
-  last h k = let j : n ≡ suc (n - 1) = omega arith in ap (λ (m : ℕ). take m s) j ∙ take-suc s (n - 1) 0 (omega arith)
-
-  pub trim_step : 0 < n → n ≤ length s → get_or s (n - 1) 0 ≡ 32 → trimmed_length s ≡ trimmed_length (take (n - 1) s)
-  trim_step h k x = e ∙ rw (last h k, x) (trimmed_blank (take (n - 1) s))
-
-  pub trim_stop : 0 < n → n ≤ length s → (get_or s (n - 1) 0 ≡ 32 → ⊥) → n ≡ trimmed_length s
-  trim_stop h k x =
-      let l : length (take (n - 1) s) ≡ n - 1 = rw length-take (omega arith) in
-      let t : trimmed_length s ≡ suc (length (take (n - 1) s)) = e ∙ rw (last h k) (trimmed_other (take (n - 1) s) (get_or s (n - 1) 0) x) in
-      omega arith
-
-  pub trim_end : n ≤ 0 → n ≡ trimmed_length s
-  unfolding trimmed_length
-  trim_end h = let z : n ≡ 0 = omega arith in let t : trimmed_length s ≡ trimmed_length (take 0 s) = rw z at e in omega arith
 
 -- nothing is left exactly where all is blank
 pub trimmed_blanks : (s : List ℕ) → is_blank s ≡ eqb (trimmed_length s) 0
@@ -189,4 +159,25 @@ trimmed_none s e = trimmed_blanks s ∙ eq-eqb (trimmed_length s) 0 e
 pub trimmed_some : (s : List ℕ) → (trimmed_length s ≡ 0 → ⊥) → is_blank s ≡ false
 trimmed_some s e = trimmed_blanks s ∙ ne_eqb (trimmed_length s) 0 e
 
-pub ruleset trim_laws = (rules, trim_start, trim_step, trim_stop, trim_end)
+-- no byte but blanks, or a last one at index i
+blanks_all : (s : List ℕ) → ((k : ℕ) → k < length s → get_or s k 0 ≡ 32) → is_blank s ≡ true
+unfolding is_blank all
+blanks_all [] h = refl
+blanks_all (x ∷ s) h = rw (eq-eqb x 32 (h 0 (omega arith)), blanks_all s (λ k l. h (suc k) (omega arith)))
+
+pub trim_none : (s : List ℕ) → ((k : ℕ) → k < length s → get_or s k 0 ≡ 32) → ◌≡◌ {A = ℕ} 0 (trimmed_length s)
+unfolding trimmed_length
+trim_none [] h = refl
+trim_none (x ∷ s) h = rw (blanks_all (x ∷ s) h)
+
+pub trim_last : (s : List ℕ) (i : ℕ) → i < length s → (get_or s i 0 ≡ 32 → ⊥) → ((k : ℕ) → i + 1 ≤ k → k < length s → get_or s k 0 ≡ 32)
+    → i + 1 ≡ trimmed_length s
+unfolding trimmed_length is_blank all
+trim_last [] i h y after = absurd (omega arith)
+trim_last (x ∷ s) zero h y after =
+    let e : ◌≡◌ {A = ℕ} 0 (trimmed_length s) = trim_none s (λ k l. after (suc k) (omega arith) (omega arith)) in
+    rw (ne_eqb x 32 y, ← e)
+trim_last (x ∷ s) (suc i) h y after =
+    let e : i + 1 ≡ trimmed_length s = trim_last s i (omega arith) y (λ k l m. after (suc k) (omega arith) (omega arith)) in
+    let b : is_blank s ≡ false = trimmed_some s (λ z. omega arith) in
+    rw (b, and-false) (omega arith)

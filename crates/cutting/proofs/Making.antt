@@ -1,17 +1,16 @@
 -- Laws of the part that is cut out: within the bounds each difference is a number, and the arms of the code make the
 -- part of the definition. Assumes nothing.
 use mathlib.Core.Path.{◌≡◌, refl, sym, ◌∙◌}
-use mathlib.Core.Bool.{Bool, true}
+use mathlib.Core.Bool.{Bool, true, cond}
 use mathlib.Core.List.{List}
 use Prim.Native.Nat.{ℕ, ◌+◌, ◌-◌, ◌≤◌}
 use native.Mathlib.Omega.{arith}
 use lib.ListN.{length}
 use borrow.Author.Rules.{rules}
 use borrow.Author.Tests.{leb-true}
-use Rattle.strlib.proofs.Refusing.{also_true, first_is, passed, outcome_no, outcome_yes}
+use Rattle.strlib.proofs.Refusing.{passed}
 use Rattle.strlib.proofs.Pointing.{fits_is, good_is}
 use Rattle.strlib.specs.Pointer.{sized, part_of, store_fits, good_in, text_of, readable}
-use Rattle.strlib.specs.Refusal.{refused, gives, also}
 use Rattle.strlib.specs.declared.StrPtr.{StrPtr}
 use Rattle.cutting.proofs.Bounding.{counted_is, between_is}
 use Rattle.cutting.specs.Cutting.{trimmed_length, second, in_bounds, cut_of, cut_reads, cut_checks, cut_refusal, cut_rule}
@@ -112,32 +111,26 @@ pub ruleset cut_laws = (
 -- ---- the call
 
 -- only trimming reads
-module _ (s : List ℕ) (p : StrPtr) (c : Cut) (k : ℕ) where
-  pub reads_relative : (a : ℕ) → c ≡ Relative a → k ≡ also k 2 (cut_reads s p c)
+module _ (s : List ℕ) (p : StrPtr) (c : Cut) where
+  pub reads_relative : (a : ℕ) → c ≡ Relative a → ◌≡◌ {A = ℕ} 0 (cond (cut_reads s p c) 0 2)
   unfolding cut_reads
-  reads_relative a e = rw e (also_true k 2)
+  reads_relative a e = rw e
 
-  pub reads_counted : (at n : ℕ) → c ≡ Counted at n → k ≡ also k 2 (cut_reads s p c)
+  pub reads_counted : (at n : ℕ) → c ≡ Counted at n → ◌≡◌ {A = ℕ} 0 (cond (cut_reads s p c) 0 2)
   unfolding cut_reads
-  reads_counted at n e = rw e (also_true k 2)
+  reads_counted at n e = rw e
 
-  pub reads_between : (pos1 pos2 : ℕ) → c ≡ Between pos1 pos2 → k ≡ also k 2 (cut_reads s p c)
+  pub reads_between : (pos1 pos2 : ℕ) → c ≡ Between pos1 pos2 → ◌≡◌ {A = ℕ} 0 (cond (cut_reads s p c) 0 2)
   unfolding cut_reads
-  reads_between pos1 pos2 e = rw e (also_true k 2)
+  reads_between pos1 pos2 e = rw e
 
-  pub reads_trimmed : (r : ℕ) → c ≡ Trimmed → r ≡ also k 2 (readable s p) → r ≡ also k 2 (cut_reads s p c)
+  pub reads_trimmed : (r : ℕ) → c ≡ Trimmed → r ≡ cond (readable s p) 0 2 → r ≡ cond (cut_reads s p c) 0 2
   unfolding cut_reads
   reads_trimmed r e h = rw e h
 
 pub ruleset reads_laws = (rules, reads_relative, reads_counted, reads_between, reads_trimmed)
 
 module _ (s : List ℕ) (p : StrPtr) (c : Cut) where
-  pub cut_checked : (found₁ : ℕ) → found₁ ≡ also 0 3 (store_fits s) → (found₂ : ℕ) → found₂ ≡ also found₁ 1 (good_in (length s) p)
-      → (found₃ : ℕ) → found₃ ≡ also found₂ 2 (cut_reads s p c) → (b : Bool) → b ≡ in_bounds p c → (found₄ : ℕ) → found₄ ≡ also found₃ 4 b
-      → found₄ ≡ cut_refusal s p c
-  unfolding cut_refusal
-  cut_checked found₁ e₁ found₂ e₂ found₃ e₃ b eb found₄ e₄ = first_is (cut_checks s p c) refl found₄ (rw (e₄, eb, e₃, e₂, e₁))
-
   -- the checks by their names, where all are passed
   pub record CutPassed : Type 0 where
     pub fits : store_fits s ≡ true
@@ -151,21 +144,10 @@ module _ (s : List ℕ) (p : StrPtr) (c : Cut) where
       let ok = passed (cut_checks s p c) refl e in
       record { fits = ok.0; good = ok.1.0; reads = ok.1.1.0; bounds = ok.1.1.1.0 }
 
--- the two answers
-module _ (s : List ℕ) (p : StrPtr) (c : Cut) (k : ℕ) (e : k ≡ cut_refusal s p c) where
-  pub cut_refused : (k ≡ 0 → ⊥) → refused k ≡ cut_rule s p c
-  unfolding cut_rule
-  cut_refused h = outcome_no k (cut_refusal s p c) e (cut_of s p c) h
-
-  pub cut_gives : (r : StrPtr) → k ≡ 0 → r ≡ cut_of s p c → gives r ≡ cut_rule s p c
-  unfolding cut_rule
-  cut_gives r z h = outcome_yes k (cut_refusal s p c) e r (cut_of s p c) z h
-
-  pub cut_ready : k ≡ 0 → Cuttable p c
-  cut_ready z =
-      let ok : CutPassed s p c = cut_passed s p c (sym e ∙ z) in
-      let g = good_is (length s) p ok.good in
-      let f = fits_is s ok.fits in
-      record { room = g.0; end = omega arith; bounds = ok.bounds }
-
-pub ruleset cut_call_laws = (rules, cut_checked, cut_refused, cut_gives, cut_ready)
+-- what the checks say where they find nothing
+pub cut_ready : (s : List ℕ) (p : StrPtr) (c : Cut) → ◌≡◌ {A = ℕ} 0 (cut_refusal s p c) → Cuttable p c
+cut_ready s p c z =
+    let ok : CutPassed s p c = cut_passed s p c (sym z) in
+    let g = good_is (length s) p ok.good in
+    let f = fits_is s ok.fits in
+    record { room = g.0; end = omega arith; bounds = ok.bounds }

@@ -21,6 +21,7 @@ use Rattle.cutting.specs.Part.{IsPart, whole, slice_cut, shown, label_place}
 use Rattle.cutting.specs.declared.Cut.{Cut}
 use Rattle.cutting.specs.declared.Cut.TheVariants.{Counted, Trimmed}
 use Rattle.cutting.specs.declared.parts.DeskLabel.{DeskLabel}
+use Rattle.cutting.specs.declared.parts.DeskLabel.TheVariants.{Production, House}
 
 whole_good : (xs : List ℕ) → good_in (length xs) (whole xs) ≡ true
 unfolding whole pointer
@@ -92,47 +93,45 @@ module _ (production house : List ℕ) (p : StrPtr) (e : p ≡ slice_cut product
   left : p.length ≡ trimmed_length production
   left = ap (λ (q : StrPtr). q.length) e ∙ place_trimmed production
 
-  pub place_house : (q : StrPtr) → p.length ≡ 0 → q ≡ slice_cut house Trimmed → record { house = true; place = q } ≡ label_place production house
+  pub place_house : (q : StrPtr) → p.length ≡ 0 → q ≡ slice_cut house Trimmed → House q ≡ label_place production house
   unfolding label_place
   place_house q z h = rw (trimmed_none production (sym left ∙ z), h)
 
-  pub place_production : (p.length ≡ 0 → ⊥) → record { house = false; place = p } ≡ label_place production house
+  pub place_production : (p.length ≡ 0 → ⊥) → Production p ≡ label_place production house
   unfolding label_place
   place_production z = rw (trimmed_some production (λ (n : trimmed_length production ≡ 0). z (left ∙ n)), e)
 
 -- the part at the label's place
-module _ (production house : Bor (List ℕ)) (l : DeskLabel) (e : l ≡ label_place production.now house.now) where
-  module _ (h : l.house ≡ true) where
-    in_house : is_blank production.now ≡ true
-    unfolding label_place
-    in_house = sym (ap (λ (x : DeskLabel). x.house) e) ∙ h
+module _ (production house : Bor (List ℕ)) (l : DeskLabel) (e : l ≡ label_place production.now house.now) (p : StrPtr) where
+  in_house : l ≡ House p → (is_blank production.now ≡ true) × (p ≡ slice_cut house.now Trimmed)
+  unfolding label_place
+  in_house h = go (is_blank production.now) (sym h ∙ e)
+    where
+      go : (b : Bool) → House p ≡ cond b (House (slice_cut house.now Trimmed)) (Production (slice_cut production.now Trimmed)) → (b ≡ true) × (p ≡ slice_cut house.now Trimmed)
+      go true f = (refl, cc)
+      go false f = cc
 
-    house_place : l.place ≡ slice_cut house.now Trimmed
-    unfolding label_place
-    house_place = ap (λ (x : DeskLabel). x.place) e ∙ rw in_house
+  in_production : l ≡ Production p → (is_blank production.now ≡ false) × (p ≡ slice_cut production.now Trimmed)
+  unfolding label_place
+  in_production h = go (is_blank production.now) (sym h ∙ e)
+    where
+      go : (b : Bool) → Production p ≡ cond b (House (slice_cut house.now Trimmed)) (Production (slice_cut production.now Trimmed)) → (b ≡ false) × (p ≡ slice_cut production.now Trimmed)
+      go true f = cc
+      go false f = (refl, cc)
 
-    pub house_within : l.place.start + l.place.length ≤ length house.now
-    house_within = slice_within house.now Trimmed l.place house_place
+  pub house_within : l ≡ House p → p.start + p.length ≤ length house.now
+  house_within h = slice_within house.now Trimmed p (in_house h).1
 
-    pub label_house : (r : Bor (List ℕ)) → IsPart r house l.place → IsPart r (shown production house) (slice_cut (shown production house).now Trimmed)
-    unfolding shown
-    label_house r i = rw (in_house, ← house_place) i
+  pub production_within : l ≡ Production p → p.start + p.length ≤ length production.now
+  production_within h = slice_within production.now Trimmed p (in_production h).1
 
-  module _ (h : l.house ≡ false) where
-    in_production : is_blank production.now ≡ false
-    unfolding label_place
-    in_production = sym (ap (λ (x : DeskLabel). x.house) e) ∙ h
+  pub label_house : l ≡ House p → (r : Bor (List ℕ)) → IsPart r house p → IsPart r (shown production house) (slice_cut (shown production house).now Trimmed)
+  unfolding shown
+  label_house h r i = rw ((in_house h).0, ← (in_house h).1) i
 
-    production_place : l.place ≡ slice_cut production.now Trimmed
-    unfolding label_place
-    production_place = ap (λ (x : DeskLabel). x.place) e ∙ rw in_production
-
-    pub production_within : l.place.start + l.place.length ≤ length production.now
-    production_within = slice_within production.now Trimmed l.place production_place
-
-    pub label_production : (r : Bor (List ℕ)) → IsPart r production l.place → IsPart r (shown production house) (slice_cut (shown production house).now Trimmed)
-    unfolding shown
-    label_production r i = rw (in_production, ← production_place) i
+  pub label_production : l ≡ Production p → (r : Bor (List ℕ)) → IsPart r production p → IsPart r (shown production house) (slice_cut (shown production house).now Trimmed)
+  unfolding shown
+  label_production h r i = rw ((in_production h).0, ← (in_production h).1) i
 
 pub ruleset label_laws = (rules, place_house, place_production, house_within, label_house, production_within, label_production)
 

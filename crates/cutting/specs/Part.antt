@@ -7,6 +7,7 @@ use Rattle.cutting.specs.Cutting.{is_blank, in_bounds, cut_of}
 use Rattle.cutting.specs.declared.Cut.{Cut}
 use Rattle.cutting.specs.declared.Cut.TheVariants.{Trimmed}
 use Rattle.cutting.specs.declared.parts.DeskLabel.{DeskLabel}
+use Rattle.cutting.specs.declared.parts.DeskLabel.TheVariants.{Production, House}
 
 -- r is the part of s itself that p names: the same memory from p's start on, and p's characters
 pub record IsPart (r s : Bor (List ℕ)) (p : StrPtr) : Type 0 where
@@ -32,5 +33,4 @@ shown production house = cond (shows_house production.now) house production
 
 -- where its label lies: in the house name or in the production name, and where in it
 unfoldable pub label_place : List ℕ → List ℕ → DeskLabel
-label_place production house =
-    record { house = shows_house production; place = slice_cut (cond (shows_house production) house production) Trimmed }
+label_place production house = cond (shows_house production) (House (slice_cut house Trimmed)) (Production (slice_cut production Trimmed))

@@ -46,13 +46,8 @@ pub fn in_bounds(string: StrPtr, cut: Cut) -> bool
 pub fn trimmed_length(bytes: &[u8]) -> usize
     ensures { result ≡ trimmed_length bytes.now }
 {
-    let mut n = bytes.len();
-    while 0 < n {
-        let i = n - 1;
-        if bytes[i] != b' ' {
-            return n;
-        }
-        n = i;
+    match bytes.iter().rposition(|b| *b != b' ') {
+        Some(last) => last + 1,
+        None => 0,
     }
-    n
 }

@@ -4,9 +4,9 @@
 mod bounds;
 mod parts;
 
-ghost use Rattle.std.specs.Prelude.{◌≡◌, ◌<◌};
+ghost use Rattle.std.specs.Prelude.{◌≡◌, ◌<◌, cond};
 ghost use Rattle.strlib.specs.Pointer.{part_of};
-ghost use Rattle.strlib.specs.Refusal.{also, answered};
+ghost use Rattle.strlib.specs.Refusal.{answered, number_found};
 ghost use Rattle.cutting.specs.Cutting.{second, cut_reads, cut_of, cut_refusal, cut_rule};
 ghost use Rattle.cutting.specs.Inner.{Cuttable, Inside};
 ghost use Rattle.cutting.specs.declared.Cut.TheVariants.{Relative, Counted, Between, Trimmed};
@@ -15,7 +15,7 @@ pub use parts::{
     DeskLabel, between_part, counted_part, desk_label, label_place, place_of, relative_part,
     trimmed_part,
 };
-use strlib::{StrAnswer, StrPtr};
+use strlib::{Refusal, StrPtr};
 
 // The four cuts of document 01, with their numbers: an offset; a position and a count; two positions; none.
 #[derive(Clone, Copy)]
@@ -27,28 +27,28 @@ pub enum Cut {
 }
 
 // What is behind the first `offset` characters.
-pub fn relative(store: &[u8], string: StrPtr, offset: usize) -> StrAnswer
+pub fn relative(store: &[u8], string: StrPtr, offset: usize) -> Result<StrPtr, Refusal>
     ensures { answered result ≡ cut_rule store.now string (Relative offset) }
 {
     cut_string(store, string, Cut::Relative(offset))
 }
 
 // `count` characters from a position on, which may reach past the length up to the maximum.
-pub fn counted(store: &[u8], string: StrPtr, position: usize, count: usize) -> StrAnswer
+pub fn counted(store: &[u8], string: StrPtr, position: usize, count: usize) -> Result<StrPtr, Refusal>
     ensures { answered result ≡ cut_rule store.now string (Counted position count) }
 {
     cut_string(store, string, Cut::Counted(position, count))
 }
 
 // What lies between two positions; pos2 = 0 is the position behind the last character.
-pub fn between(store: &[u8], string: StrPtr, pos1: usize, pos2: usize) -> StrAnswer
+pub fn between(store: &[u8], string: StrPtr, pos1: usize, pos2: usize) -> Result<StrPtr, Refusal>
     ensures { answered result ≡ cut_rule store.now string (Between pos1 pos2) }
 {
     cut_string(store, string, Cut::Between(pos1, pos2))
 }
 
 // The string without its trailing blanks.
-pub fn trim(store: &[u8], string: StrPtr) -> StrAnswer
+pub fn trim(store: &[u8], string: StrPtr) -> Result<StrPtr, Refusal>
     ensures { answered result ≡ cut_rule store.now string Trimmed }
 {
     cut_string(store, string, Cut::Trimmed)
@@ -93,32 +93,27 @@ fn cut_of(bytes: &[u8], string: StrPtr, cut: Cut) -> StrPtr
 }
 
 // Refusal 2, which only trimming can give.
-fn check_reads(found: u8, store: &[u8], string: StrPtr, cut: Cut) -> u8
-    ensures { result ≡ also found 2 (cut_reads store.now string cut) }
+fn check_reads(store: &[u8], string: StrPtr, cut: Cut) -> Result<(), Refusal>
+    ensures { number_found result ≡ cond (cut_reads store.now string cut) 0 2 }
 {
     match cut {
-        Cut::Trimmed => strlib::check_readable(found, store, string),
-        Cut::Relative(_) => found,
-        Cut::Counted(_, _) => found,
-        Cut::Between(_, _) => found,
+        Cut::Trimmed => strlib::check_readable(store, string),
+        Cut::Relative(_) | Cut::Counted(_, _) | Cut::Between(_, _) => Ok(()),
     }
 }
 
-fn cut_refusal(store: &[u8], string: StrPtr, cut: Cut) -> u8
-    ensures { result ≡ cut_refusal store.now string cut }
+fn check_cut(store: &[u8], string: StrPtr, cut: Cut) -> Result<(), Refusal>
+    ensures { number_found result ≡ cut_refusal store.now string cut }
 {
-    let found = strlib::check_store(store);
-    let found = strlib::check_good(found, store.len(), string);
-    let found = check_reads(found, store, string, cut);
-    strlib::check(found, 4, bounds::in_bounds(string, cut))
+    strlib::check_store(store)?;
+    strlib::check_good(store.len(), string)?;
+    check_reads(store, string, cut)?;
+    strlib::check(bounds::in_bounds(string, cut), Refusal::Position)
 }
 
-fn cut_string(store: &[u8], string: StrPtr, cut: Cut) -> StrAnswer
+fn cut_string(store: &[u8], string: StrPtr, cut: Cut) -> Result<StrPtr, Refusal>
     ensures { answered result ≡ cut_rule store.now string cut }
 {
-    let found = cut_refusal(store, string, cut);
-    if found != 0 {
-        return StrAnswer::Refused(found);
-    }
-    StrAnswer::Given(cut_of(store, string, cut))
+    check_cut(store, string, cut)?;
+    Ok(cut_of(store, string, cut))
 }

@@ -57,11 +57,11 @@ pub fn trimmed_part(bytes: &[u8]) -> &[u8]
     cut_slice(bytes, Cut::Trimmed)
 }
 
-// Where the label shown on the desk lies: in the house name, or in the production name.
+// Where the label shown on the desk lies: in the production name, or in the house name.
 #[derive(Clone, Copy)]
-pub struct DeskLabel {
-    pub house: bool,
-    pub place: StrPtr,
+pub enum DeskLabel {
+    Production(StrPtr),
+    House(StrPtr),
 }
 
 pub fn label_place(production: &[u8], house: &[u8]) -> DeskLabel
@@ -69,22 +69,17 @@ pub fn label_place(production: &[u8], house: &[u8]) -> DeskLabel
 {
     let place = place_of(production, Cut::Trimmed);
     if place.length == 0 {
-        let place = place_of(house, Cut::Trimmed);
-        return DeskLabel { house: true, place };
+        return DeskLabel::House(place_of(house, Cut::Trimmed));
     }
-    DeskLabel {
-        house: false,
-        place,
-    }
+    DeskLabel::Production(place)
 }
 
 // The label shown on the desk: the trimmed production name, or where that is blank or empty the trimmed house name.
 pub fn desk_label<'a>(production: &'a [u8], house: &'a [u8]) -> &'a [u8]
     ensures { IsPart result (shown production.entry house.entry) (slice_cut (shown production.entry house.entry).now Trimmed) }
 {
-    let label = label_place(production, house);
-    if label.house {
-        return part(house, label.place);
+    match label_place(production, house) {
+        DeskLabel::Production(place) => part(production, place),
+        DeskLabel::House(place) => part(house, place),
     }
-    part(production, label.place)
 }

@@ -22,7 +22,7 @@ replace_good s string1 string2 string3 r e =
     let xs : List ℕ = replaced s string1 string2 string3 in
     let v = ruled_gave (replace_refusal s string1 string2 string3) (sized string1 (length xs)) r (put s string1.start xs) s e in
     let ok = replace_passed s string1 string2 string3 v.0 in
-    rw (← v.1.0) (good_sized (length s) string1 (length xs) ok.room (replace_fits s string1 string2 string3 0 (sym v.0) refl))
+    rw (← v.1.0) (good_sized (length s) string1 (length xs) ok.room (replace_fits s string1 string2 string3 (sym v.0)))
 
 pub reverse_good : ReverseGood
 unfolding reverse_rule

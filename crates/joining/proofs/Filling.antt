@@ -8,17 +8,19 @@ use Prim.Native.Nat.{ℕ, ◌+◌, ◌-◌, ◌≤◌, ◌<◌, min}
 use native.Mathlib.Nat.{sub-zero}
 use native.Mathlib.Omega.{arith}
 use lib.Dec.{leb, ltb}
-use lib.ListN.{length, take, drop, get_or, length-take, length-drop, length-append}
-use lib.Seq.{drop-drop, take_all, take-add, take-take, take-append-le, drop-append-le, drop_at, get_or-take}
+use lib.ListN.{length, take, drop, get_or, length-take, length-drop, length-append, drop_of_length-le}
+use native.Mathlib.Numerals.{add-one}
+use lib.Seq.{drop-cons, drop-drop, take_all, take-add, take-take, take-append-le, drop-append-le, drop_at}
 use mir.Syntax.{w64}
 use mir.Val.{Fits}
 use borrow.Author.Rules.{rules}
 use borrow.Author.Tests.{le-leb, lt-leb, lt-ltb, le-ltb}
+use Rattle.std.proofs.lemmas.List.{take_rest, get_or-drop}
 use Rattle.strlib.specs.Pointer.{sized, good_in, text_of, texts, clear, joined}
 use Rattle.strlib.specs.Store.{put}
 use Rattle.strlib.specs.declared.StrPtr.{StrPtr}
 use Rattle.strlib.proofs.Pointing.{good_is, text_length}
-use Rattle.strlib.proofs.Listing.{prefix_cons, prefix_end, all_at}
+use Rattle.strlib.proofs.Listing.{all_at}
 use Rattle.strlib.proofs.Storing.{drop_take, put_none, put_put, put_length}
 use Rattle.moving.specs.Moving.{moved}
 use Rattle.moving.proofs.Moving.{moved_in}
@@ -27,8 +29,8 @@ use Rattle.joining.specs.Resuming.{length_at, before, place_at, piece, completes
 use Rattle.joining.specs.Inner.{Next, moved_next, Resumable}
 use Rattle.joining.specs.declared.Round.{Round}
 use Rattle.strlib.proofs.Texts.{texts_long, texts_drop}
-use Rattle.joining.proofs.Texts.{joined_drop, before_add}
-use Rattle.joining.proofs.Placing.{length_in, place_skip}
+use Rattle.joining.proofs.Texts.{joined_drop, before_add, length_at_is}
+use Rattle.joining.proofs.Placing.{place_skip}
 
 -- ---- moving the next characters of a source
 
@@ -60,28 +62,26 @@ unfolding text_of
 part_text s p q m h = sym (rw (drop_take, take-take m (p.length - q) (drop q (drop p.start s)) (omega arith), drop-drop))
 
 -- n characters are written, and what is left starts behind q characters of the string of index i
-pub record Filling (s t : List ℕ) (destination : StrPtr) (list : List StrPtr) (count index skip n i q : ℕ) : Type 0 where
-  pub given : Resumable s destination list count index skip
-  pub whole : length list ≡ 32
-  pub string : i ≤ count
-  pub character : q ≤ length_at (take count list) i
+pub record Filling (s t : List ℕ) (destination : StrPtr) (ps : List StrPtr) (index skip n i q : ℕ) : Type 0 where
+  pub given : Resumable s destination ps index skip
+  pub string : i ≤ length ps
+  pub character : q ≤ length_at ps i
   pub long : length t ≡ length s
   pub size : n ≤ destination.maximum
-  pub few : n ≤ length (drop (before (texts s (take count list)) index skip) (joined (texts s (take count list))))
-  pub bytes : t ≡ put s destination.start (take n (drop (before (texts s (take count list)) index skip) (joined (texts s (take count list)))))
-  pub left : drop n (drop (before (texts s (take count list)) index skip) (joined (texts s (take count list)))) ≡ drop q (joined (drop i (texts s (take count list))))
-  pub next : place_at 1 (texts s (take count list)) (before (texts s (take count list)) index skip + destination.maximum)
-      ≡ place_at (i + 1) (drop i (texts s (take count list))) (q + (destination.maximum - n))
+  pub few : n ≤ length (drop (before (texts s ps) index skip) (joined (texts s ps)))
+  pub bytes : t ≡ put s destination.start (take n (drop (before (texts s ps) index skip) (joined (texts s ps))))
+  pub left : drop n (drop (before (texts s ps) index skip) (joined (texts s ps))) ≡ drop q (joined (drop i (texts s ps)))
+  pub next : place_at 1 (texts s ps) (before (texts s ps) index skip + destination.maximum)
+      ≡ place_at (i + 1) (drop i (texts s ps)) (q + (destination.maximum - n))
 
-pub fill_none : (s : List ℕ) (destination : StrPtr) (list : List StrPtr) (count index skip : ℕ) → Resumable s destination list count index skip → length list ≡ 32
-    → Filling s s destination list count index skip 0 index skip
-fill_none s destination list count index skip R L =
-    let xss : List (List ℕ) = texts s (take count list) in
-    let l : index ≤ length xss = rw (texts_long s (take count list), length-take) (omega (arith, R.few, R.start)) in
+pub fill_none : (s : List ℕ) (destination : StrPtr) (ps : List StrPtr) (index skip : ℕ) → Resumable s destination ps index skip
+    → Filling s s destination ps index skip 0 index skip
+fill_none s destination ps index skip R =
+    let xss : List (List ℕ) = texts s ps in
+    let l : index ≤ length xss = rw (texts_long s ps) R.start in
     let b : 1 + index ≡ index + 1 = omega arith in
     record {
       given = R;
-      whole = L;
       string = R.start;
       character = R.within;
       long = refl;
@@ -92,9 +92,9 @@ fill_none s destination list count index skip R L =
       next = rw (before_add xss index skip destination.maximum, place_skip 1 xss index (skip + destination.maximum) l, b, sub-zero);
     }
 
-module _ (s t : List ℕ) (destination : StrPtr) (list : List StrPtr) (count index skip n i q : ℕ) (F : Filling s t destination list count index skip n i q) where
+module _ (s t : List ℕ) (destination : StrPtr) (ps : List StrPtr) (index skip n i q : ℕ) (F : Filling s t destination ps index skip n i q) where
   abbrev xss : List (List ℕ)
-  xss = texts s (take count list)
+  xss = texts s ps
 
   -- what the call is to write, if it fits
   abbrev what : List ℕ
@@ -110,57 +110,54 @@ module _ (s t : List ℕ) (destination : StrPtr) (list : List StrPtr) (count ind
   rest_long = sym (length-drop n what) ∙ ap length F.left ∙ length-drop q behind
 
   -- no string is left
-  pub fill_end : count ≤ i → (r : Round) → r ≡ record { to = sized destination n; completed = true; next = record { string = count + 1; character = 1 } }
-      → (r, t) ≡ round_from s destination (take count list) index skip
+  pub fill_end : length ps ≤ i → (r : Round) → r ≡ record { to = sized destination n; completed = true; next = record { string = length ps + 1; character = 1 } }
+      → (r, t) ≡ round_from s destination ps index skip
   unfolding round_from round_of piece completes next_place place_at joined texts
   fill_end h r f =
-      let e : i ≡ count = omega (arith, F.string) in
-      let d : drop i xss ≡ [] = rw (texts_drop s (take count list) i, prefix_end list count i (omega arith)) refl in
+      let e : i ≡ length ps = omega (arith, F.string) in
+      let d : drop i xss ≡ [] = rw (texts_drop s ps i, drop_of_length-le ps h) refl in
       let z : length behind ≡ 0 = rw d in
       let a : length what ≡ n = omega (arith, rest_long, F.few) in
       let w : take destination.maximum what ≡ take n what = rw (take_all destination.maximum what (omega (arith, F.size)), take_all n what (omega arith)) in
       let l : length (take n what) ≡ n = rw length-take (omega arith) in
-      let p : place_at 1 xss (before xss index skip + destination.maximum) ≡ record { string = count + 1; character = 1 } = F.next ∙ rw (d, e) in
+      let p : place_at 1 xss (before xss index skip + destination.maximum) ≡ record { string = length ps + 1; character = 1 } = F.next ∙ rw (d, e) in
       let c : leb (length what) destination.maximum ≡ true = le-leb (length what) destination.maximum (omega (arith, F.size)) in
       rw (f, F.bytes, w, l, p, c)
 
   -- inside the string of index i
-  module _ (d : StrPtr) (h : i < count) where
-    abbrev x : StrPtr
-    x = get_or list i d
+  module _ (x d : StrPtr) (h : i < length ps) (is : x ≡ get_or ps i d) where
+    x_length : length_at ps i ≡ x.length
+    x_length = length_at_is ps i d h ∙ rw (← is)
 
-    fill_sub : q ≤ (get_or list i d).length
-    fill_sub = omega (arith, length_in list count i F.whole d h (omega (arith, F.given.few)), F.character)
-
-    inside : i < length (take count list)
-    inside = rw length-take (omega (arith, F.given.few, F.whole))
+    fill_sub : q ≤ x.length
+    fill_sub = omega (arith, x_length, F.character)
 
     x_good : good_in (length s) x ≡ true
-    x_good = rw (get_or-take count list i d h) at (all_at (good_in (length s)) (take count list) i d F.given.parts inside)
+    x_good = rw (← is) at (all_at (good_in (length s)) ps i d F.given.parts h)
 
     part : (x.length ≤ x.maximum) × (x.start + x.maximum ≤ length s)
     part = good_is (length s) x x_good
 
     x_clear : clear destination x ≡ true
-    x_clear = rw (get_or-take count list i d h) at (all_at (clear destination) (take count list) i d F.given.apart inside)
+    x_clear = rw (← is) at (all_at (clear destination) ps i d F.given.apart h)
 
     text : length (text_of s x) ≡ x.length
     text = text_length s x x_good
 
     cons : drop i xss ≡ text_of s x ∷ drop (i + 1) xss
     unfolding texts
-    cons = rw (texts_drop s (take count list) i, prefix_cons list count i d h (omega (arith, F.given.few, F.whole)), texts_drop s (take count list) (i + 1))
+    cons = rw (texts_drop s ps i, texts_drop s ps (i + 1), add-one, drop-cons ps i d h, ← is)
 
     behind_long : x.length ≤ length behind
     unfolding joined
     behind_long = rw (cons, length-append, text) (omega arith)
 
     -- what moving its next characters asks
-    pub fill_next : Next (length t) destination n (get_or list i d) q
+    pub fill_next : Next (length t) destination n x q
     fill_next = record { small = omega (arith, F.given.small, F.long); room = rw F.long F.given.room; part = rw F.long x_good; fits = F.size; character = fill_sub }
 
     -- the string is used up
-    used_up : x.length ≤ q → Filling s t destination list count index skip n (i + 1) 0
+    used_up : x.length ≤ q → Filling s t destination ps index skip n (i + 1) 0
     unfolding place_at joined
     used_up g =
         let e : q ≡ x.length = omega (arith, fill_sub) in
@@ -169,8 +166,7 @@ module _ (s t : List ℕ) (destination : StrPtr) (list : List StrPtr) (count ind
         let f : q + (destination.maximum - n) - length (text_of s x) ≡ 0 + (destination.maximum - n) = omega (arith, text) in
         record {
           given = F.given;
-          whole = F.whole;
-          string = omega arith;
+            string = omega arith;
           character = omega arith;
           long = F.long;
           size = F.size;
@@ -180,7 +176,7 @@ module _ (s t : List ℕ) (destination : StrPtr) (list : List StrPtr) (count ind
           next = F.next ∙ rw (cons, b, f);
         }
 
-    module _ (m : ℕ) (t' : List ℕ) (e : (m, t') ≡ moved_next t destination n (get_or list i d) q) where
+    module _ (m : ℕ) (t' : List ℕ) (e : (m, t') ≡ moved_next t destination n x q) where
       em : m ≡ min (x.length - q) (destination.maximum - n)
       unfolding moved_next
       em = ap (λ (z : ℕ × List ℕ). z.0) e
@@ -203,7 +199,7 @@ module _ (s t : List ℕ) (destination : StrPtr) (list : List StrPtr) (count ind
           ∙ rw (cons, drop-append-le q (text_of s x) (joined (drop (i + 1) xss)) (omega (arith, text, fill_sub)), take-append-le m (drop q (text_of s x)) (joined (drop (i + 1) xss)) b)))
 
       -- m characters are moved
-      fill_more : Filling s t' destination list count index skip (n + m) i (q + m)
+      fill_more : Filling s t' destination ps index skip (n + m) i (q + m)
       fill_more =
           let v : List ℕ = take n what in
           let l : length v ≡ n = rw length-take (omega (arith, F.few)) in
@@ -216,9 +212,8 @@ module _ (s t : List ℕ) (destination : StrPtr) (list : List StrPtr) (count ind
           let f : q + m + (destination.maximum - (n + m)) ≡ q + (destination.maximum - n) = omega (arith, em, F.size) in
           record {
             given = F.given;
-            whole = F.whole;
-            string = F.string;
-            character = omega (arith, length_in list count i F.whole d h (omega (arith, F.given.few)), em, fill_sub);
+                string = F.string;
+            character = omega (arith, x_length, em, fill_sub);
             long = g ∙ F.long;
             size = omega (arith, em, F.size);
             few = omega (arith, em, F.few, rest_long, behind_long, fill_sub);
@@ -228,32 +223,44 @@ module _ (s t : List ℕ) (destination : StrPtr) (list : List StrPtr) (count ind
           }
 
 -- a turn: m characters are moved, and then the string is used up or the maximum is reached
-module _ (s t t' : List ℕ) (destination d : StrPtr) (list : List StrPtr) (count index skip n i q m : ℕ) (F : Filling s t destination list count index skip n i q)
-    (h : i < count) (e : (m, t') ≡ moved_next t destination n (get_or list i d) q) where
-  turned : Filling s t' destination list count index skip (n + m) i (q + m)
-  turned = fill_more s t destination list count index skip n i q F d h m t' e
+module _ (s t t' : List ℕ) (destination : StrPtr) (ps : List StrPtr) (index skip n i q m : ℕ) (F : Filling s t destination ps index skip n i q)
+    (x d : StrPtr) (h : i < length ps) (is : x ≡ get_or ps i d) (e : (m, t') ≡ moved_next t destination n x q) where
+  turned : Filling s t' destination ps index skip (n + m) i (q + m)
+  turned = fill_more s t destination ps index skip n i q F x d h is m t' e
 
-  pub fill_on : (get_or list i d).length ≤ q + m → Filling s t' destination list count index skip (n + m) (i + 1) 0
-  fill_on = used_up s t' destination list count index skip (n + m) i (q + m) turned d h
+  pub fill_on : x.length ≤ q + m → Filling s t' destination ps index skip (n + m) (i + 1) 0
+  fill_on = used_up s t' destination ps index skip (n + m) i (q + m)  turned x d h is
 
-  pub fill_stop : q + m < (get_or list i d).length → (r : Round)
+  pub fill_stop : q + m < x.length → (r : Round)
       → r ≡ record { to = sized destination (n + m); completed = false; next = record { string = i + 1; character = q + m + 1 } }
-      → (r, t') ≡ round_from s destination (take count list) index skip
+      → (r, t') ≡ round_from s destination ps index skip
   unfolding round_from round_of piece completes next_place place_at
   fill_stop k r f =
-      let xss : List (List ℕ) = texts s (take count list) in
+      let xss : List (List ℕ) = texts s ps in
       let what : List ℕ = drop (before xss index skip) (joined xss) in
-      let x : StrPtr = get_or list i d in
-      let bl : x.length ≤ length (joined (drop i xss)) = behind_long s t destination list count index skip n i q F d h in
-      let rl : length what - (n + m) ≡ length (joined (drop i xss)) - (q + m) = rest_long s t' destination list count index skip (n + m) i (q + m) turned in
-      let full : n + m ≡ destination.maximum = omega (arith, F.size, em s t destination list count index skip n i q F d h m t' e) in
+      let bl : x.length ≤ length (joined (drop i xss)) = behind_long s t destination ps index skip n i q F x d h is in
+      let rl : length what - (n + m) ≡ length (joined (drop i xss)) - (q + m) = rest_long s t' destination ps index skip (n + m) i (q + m) turned in
+      let full : n + m ≡ destination.maximum = omega (arith, F.size, em s t destination ps index skip n i q F x d h is m t' e) in
       let l : length (take destination.maximum what) ≡ n + m = rw length-take (omega (arith, turned.few)) in
-      let tx : length (text_of s x) ≡ x.length = text s t destination list count index skip n i q F d h in
+      let tx : length (text_of s x) ≡ x.length = text s t destination ps index skip n i q F x d h is in
       let z : q + m + (destination.maximum - (n + m)) ≡ q + m = omega arith in
       let lt : ltb (q + m) (length (text_of s x)) ≡ true = lt-ltb (q + m) (length (text_of s x)) (omega arith) in
       let p : place_at 1 xss (before xss index skip + destination.maximum) ≡ record { string = i + 1; character = q + m + 1 } =
-      turned.next ∙ rw (z, cons s t destination list count index skip n i q F d h, lt) in
+      turned.next ∙ rw (z, cons s t destination ps index skip n i q F x d h is, lt) in
       let c : leb (length what) destination.maximum ≡ false = lt-leb (length what) destination.maximum (omega (arith, turned.few)) in
       rw (f, turned.bytes, l, p, c, full)
 
-pub ruleset fill_laws = (rules, fill_none, fill_next, fill_on, fill_stop, fill_end)
+-- ---- what is left of the strings
+
+module _ (ps : List StrPtr) (index k : ℕ) where
+  abbrev rest : List StrPtr
+  rest = take (length ps - index) (drop index ps)
+
+  pub rest_at : (d : StrPtr) → get_or rest k d ≡ get_or ps (index + k) d
+  rest_at d = rw (take_rest, get_or-drop)
+
+  pub rest_in : k < length rest → index + k < length ps
+  rest_in h = let l : length rest ≡ length ps - index = rw (take_rest, length-drop) in omega arith
+
+  pub rest_over : index ≤ length ps → length rest ≤ k → length ps ≤ index + k
+  rest_over g h = let l : length rest ≡ length ps - index = rw (take_rest, length-drop) in omega arith

@@ -21,17 +21,12 @@ use Rattle.joining.proofs.Texts.{length_at_is, length_at_none, before_end}
 
 -- ---- the length of a listed string
 
-module _ (list : List StrPtr) (count i : ℕ) (L : length list ≡ 32) where
-  pub length_in : (d : StrPtr) → i < count → i < 32 → (get_or list i d).length ≡ length_at (take count list) i
-  length_in d h k =
-      let e : i < length (take count list) = rw length-take (omega arith) in
-      sym (length_at_is (take count list) i d e ∙ rw (get_or-take count list i d h))
+module _ (ps : List StrPtr) (i : ℕ) where
+  pub length_in : (d : StrPtr) → i < length ps → (get_or ps i d).length ≡ length_at ps i
+  length_in d h = sym (length_at_is ps i d h)
 
-  pub length_over : 32 ≤ i → 0 ≡ length_at (take count list) i
-  length_over h = sym (length_at_none (take count list) i (rw length-take (omega arith)))
-
-  pub length_past : count ≤ i → 0 ≡ length_at (take count list) i
-  length_past h = sym (length_at_none (take count list) i (rw length-take (omega arith)))
+  pub length_past : length ps ≤ i → 0 ≡ length_at ps i
+  length_past h = sym (length_at_none ps i h)
 
 -- ---- the bounds of a place
 
@@ -135,4 +130,4 @@ place_offset xss o =
     let b : W.q + 1 - 1 ≡ W.q = omega arith in
     rw (W.place, a, b) (W.same ∙ omega arith))
 
-pub ruleset place_laws = (rules, length_in, length_over, length_past, place_none, place_left, place_over, place_last)
+pub ruleset place_laws = (rules, length_in, length_past, place_none, place_left, place_over, place_last)

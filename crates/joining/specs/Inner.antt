@@ -1,5 +1,5 @@
 -- What functions inside the crate ask of their callers and give. Assumes nothing.
-use Rattle.std.specs.Prelude.{ℕ, ◌+◌, ◌-◌, ◌≤◌, min, ◌≡◌, true, List, length, take}
+use Rattle.std.specs.Prelude.{ℕ, ◌+◌, ◌-◌, ◌≤◌, min, ◌≡◌, true, List, length}
 use Rattle.strlib.specs.Pointer.{good_in, clear, all}
 use Rattle.strlib.specs.declared.StrPtr.{StrPtr}
 use Rattle.moving.specs.Moving.{moved}
@@ -18,12 +18,12 @@ unfoldable pub moved_next : List ℕ → StrPtr → ℕ → StrPtr → ℕ → �
 moved_next s destination n source q =
     let m : ℕ = min (source.length - q) (destination.maximum - n) in (m, moved s (source.start + q) (destination.start + n) m)
 
--- a list whose strings lie outside the destination's room, and a place in it, as indices
-pub record Resumable (s : List ℕ) (destination : StrPtr) (list : List StrPtr) (count index skip : ℕ) : Type 0 where
+-- strings that lie outside the destination's room, and a place in them, as indices
+pub record Resumable (s : List ℕ) (destination : StrPtr) (ps : List StrPtr) (index skip : ℕ) : Type 0 where
   pub small : length s ≤ 65536
-  pub few : count ≤ 32
+  pub few : length ps ≤ 32
   pub room : good_in (length s) destination ≡ true
-  pub parts : all (good_in (length s)) (take count list) ≡ true
-  pub apart : all (clear destination) (take count list) ≡ true
-  pub start : index ≤ count
-  pub within : skip ≤ length_at (take count list) index
+  pub parts : all (good_in (length s)) ps ≡ true
+  pub apart : all (clear destination) ps ≡ true
+  pub start : index ≤ length ps
+  pub within : skip ≤ length_at ps index

@@ -1,14 +1,12 @@
 -- The checkpointed join: 01, "Copying", second paragraph. Assumes nothing.
 use Rattle.std.specs.Prelude.{ℕ, zero, suc, ◌+◌, ◌-◌, ◌≡◌, Bool, true, cond, ◌&&◌, List, [], ◌∷◌, ◌++◌, leb, ltb, length, take, drop}
 use Rattle.strlib.specs.Pointer.{sized, good_in, clear, all, texts, joined}
-use Rattle.strlib.specs.Refusal.{Outcome, refused, gives, first, ruled}
+use Rattle.strlib.specs.Refusal.{Outcome, gives, first, ruled}
 use Rattle.strlib.specs.Store.{put}
 use Rattle.strlib.specs.declared.StrPtr.{StrPtr}
 use Rattle.joining.specs.Joining.{listed_checks}
 use Rattle.joining.specs.declared.Place.{Place}
 use Rattle.joining.specs.declared.Round.{Round}
-use Rattle.joining.specs.declared.RoundAnswer.{RoundAnswer}
-use Rattle.joining.specs.declared.RoundAnswer.TheVariants.{Given, Refused}
 
 -- ---- places
 
@@ -82,11 +80,6 @@ unfoldable pub join_from_rule : List ℕ → StrPtr → List StrPtr → ℕ → 
 join_from_rule s destination list count from =
     let round : Round × List ℕ = round_from s destination (take count list) (from.string - 1) (from.character - 1) in
     ruled (join_from_refusal s destination list count from) round.0 round.1 s
-
--- the paper's value for each case of the answer
-abbrev pub round_answered : RoundAnswer → Outcome Round
-round_answered (Given r) = gives r
-round_answered (Refused n) = refused n
 
 -- a pointer that a checkpointed join gives is good for the store
 abbrev pub JoinFromGood : Type 0

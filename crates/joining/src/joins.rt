@@ -1,33 +1,29 @@
 // Join of a list.
 ghost use Rattle.std.specs.Prelude.{◌≡◌};
-ghost use Rattle.copying.specs.Copying.{copy_answered};
+ghost use Rattle.strlib.specs.Refusal.{answered, number_found};
 ghost use Rattle.joining.specs.Joining.{join_refusal, join_rule};
 
-use copying::CopyAnswer;
-use strlib::{StrList, StrPtr};
+use copying::Wrote;
+use strlib::{Refusal, StrList, StrPtr};
 
-fn join_refusal(store: &[u8], destination: StrPtr, list: StrList, count: usize) -> u8
-    ensures { result ≡ join_refusal store.now destination list count }
+fn check_join(store: &[u8], destination: StrPtr, list: &StrList) -> Result<(), Refusal>
+    ensures { number_found result ≡ join_refusal store.now destination list.now.items list.now.count }
 {
-    let found = super::listed_refusal(store, destination, list, count);
-    strlib::check_all_clear(found, store, destination, list, count)
+    super::check_listed(store, destination, list)?;
+    strlib::check_all_clear(destination, list)
 }
 
 // The destination then holds the characters of the listed strings, one behind the other, cut at its maximum.
 pub fn join(
     store: &mut [u8],
     destination: StrPtr,
-    list: StrList,
-    count: usize,
+    list: &StrList,
     pad: bool,
-) -> CopyAnswer
-    ensures { (copy_answered result, store.new) ≡ join_rule store.old destination list count pad }
+) -> Result<Wrote, Refusal>
+    ensures { (answered result, store.new) ≡ join_rule store.old destination list.now.items list.now.count pad }
 {
-    let number = join_refusal(store, destination, list, count);
-    if number != 0 {
-        return CopyAnswer::Refused(number);
-    }
-    let round = super::fill(store, destination, list, count, 0, 0);
+    check_join(store, destination, list)?;
+    let round = super::fill(store, destination, list.strings(), 0, 0);
     let to = round.to;
-    CopyAnswer::Given(copying::finish(store, destination, to.length, pad, round.completed))
+    Ok(copying::finish(store, destination, to.length, pad, round.completed))
 }

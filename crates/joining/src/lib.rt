@@ -1,13 +1,14 @@
 // Join of a list, and the checkpointed join: above copying, which pads and gives the answer.
 #![tactic(auto)]
 
-use strlib::{StrList, StrPtr};
+use strlib::{Refusal, StrList, StrPtr};
 
 mod joins;
 mod rounds;
 
-ghost use Rattle.std.specs.Prelude.{◌≡◌, ◌+◌, ◌≤◌, length, take};
+ghost use Rattle.std.specs.Prelude.{◌≡◌, ◌+◌, ◌≤◌, length};
 ghost use Rattle.strlib.specs.Pointer.{sized};
+ghost use Rattle.strlib.specs.Refusal.{number_found};
 ghost use Rattle.joining.specs.Joining.{listed_refusal};
 ghost use Rattle.joining.specs.Resuming.{round_from};
 ghost use Rattle.joining.specs.Inner.{Next, moved_next, Resumable};
@@ -31,21 +32,15 @@ pub struct Round {
     pub next: Place,
 }
 
-#[derive(Clone, Copy)]
-pub enum RoundAnswer {
-    Given(Round),
-    Refused(u8),
-}
-
 // The checks that join and the checkpointed join begin with.
-fn listed_refusal(store: &[u8], destination: StrPtr, list: StrList, count: usize) -> u8
-    ensures { result ≡ listed_refusal store.now destination list count }
+fn check_listed(store: &[u8], destination: StrPtr, list: &StrList) -> Result<(), Refusal>
+    ensures { number_found result ≡ listed_refusal store.now destination list.now.items list.now.count }
 {
-    let found = strlib::check_store(store);
-    let found = strlib::check(found, 3, count <= StrPtr::LIST_MAX);
-    let found = strlib::check_good(found, store.len(), destination);
-    let found = strlib::check_all_good(found, store, list, count);
-    strlib::check_all_readable(found, store, list, count)
+    strlib::check_store(store)?;
+    strlib::check(list.count <= StrPtr::LIST_MAX, Refusal::Range)?;
+    strlib::check_good(store.len(), destination)?;
+    strlib::check_all_good(store, list)?;
+    strlib::check_all_readable(store, list)
 }
 
 fn round_at(
@@ -73,38 +68,34 @@ fn move_next(store: &mut [u8], destination: StrPtr, n: usize, source: StrPtr, q:
     ensures moved { (result, store.new) ≡ moved_next store.old destination n source q }
     ensures bound { (n + result ≤ 65536) × (q + result ≤ 65536) }
 {
-    let m = moving::least(source.length - q, destination.maximum - n);
+    let m = (source.length - q).min(destination.maximum - n);
     moving::move_characters(store, source.start + q, destination.start + n, m);
     m
 }
 
-// Fills the destination with the characters of the listed strings, cut at its maximum, from behind the first `skip`
-// characters of the string at `index` on. One pass: each turn moves what is left of one string, or what still
-// fits.
+// Fills the destination with the characters of the strings, cut at its maximum, from behind the first `skip` characters
+// of the string at `index` on. One pass: each turn moves what is left of one string, or what still fits.
 fn fill(
     store: &mut [u8],
     destination: StrPtr,
-    list: StrList,
-    count: usize,
+    strings: &[StrPtr],
     index: usize,
     skip: usize,
 ) -> Round
-    requires { Resumable store.old destination list count index skip }
-    ensures { (result, store.new) ≡ round_from store.old destination (take count list) index skip }
+    requires { Resumable store.old destination strings.now index skip }
+    ensures { (result, store.new) ≡ round_from store.old destination strings.now index skip }
 {
+    let rest = &strings[index..];
     let mut n = 0;
-    let mut i = index;
     let mut q = skip;
-    while i < count {
-        let source = list[i];
-        let m = move_next(store, destination, n, source, q);
+    for (i, source) in rest.iter().enumerate() {
+        let m = move_next(store, destination, n, *source, q);
         n += m;
         q += m;
         if q < source.length {
-            return round_at(destination, n, false, i + 1, q + 1);
+            return round_at(destination, n, false, index + i + 1, q + 1);
         }
-        i += 1;
         q = 0;
     }
-    round_at(destination, n, true, count + 1, 1)
+    round_at(destination, n, true, strings.len() + 1, 1)
 }

@@ -1,25 +1,25 @@
 // The checkpointed join.
-ghost use Rattle.std.specs.Prelude.{◌≡◌, take};
-ghost use Rattle.joining.specs.Resuming.{length_at, place_in, join_from_refusal, join_from_rule, round_answered};
+ghost use Rattle.std.specs.Prelude.{◌≡◌};
+ghost use Rattle.strlib.specs.Refusal.{answered, number_found};
+ghost use Rattle.joining.specs.Resuming.{length_at, place_in, join_from_refusal, join_from_rule};
 
-use super::{Place, RoundAnswer};
-use strlib::{StrList, StrPtr};
+use super::{Place, Round};
+use strlib::{Refusal, StrList, StrPtr};
 
-// The length of the string at an index of the list; 0 past the count.
-fn length_at(list: StrList, count: usize, i: usize) -> usize
-    ensures { result ≡ length_at (take count list) i }
+// The length of the string at an index; 0 past the last.
+fn length_at(strings: &[StrPtr], i: usize) -> usize
+    ensures { result ≡ length_at strings.now i }
 {
-    if i < count {
-        if i < StrPtr::LIST_MAX {
-            return list[i].length;
-        }
+    if i < strings.len() {
+        strings[i].length
+    } else {
+        0
     }
-    0
 }
 
 // Whether the place lies in the list or directly behind it, for any count.
-fn is_place(list: StrList, count: usize, from: Place) -> bool
-    ensures { result ≡ place_in list count from }
+fn is_place(list: &StrList, from: Place) -> bool
+    ensures { result ≡ place_in list.now.items list.now.count from }
 {
     if from.string == 0 {
         return false;
@@ -28,45 +28,40 @@ fn is_place(list: StrList, count: usize, from: Place) -> bool
         return false;
     }
     let i = from.string - 1;
-    if count < i {
+    if list.count < i {
         return false;
     }
-    from.character - 1 <= length_at(list, count, i)
+    from.character - 1 <= length_at(list.strings(), i)
 }
 
-fn join_from_refusal(
+fn check_join_from(
     store: &[u8],
     destination: StrPtr,
-    list: StrList,
-    count: usize,
+    list: &StrList,
     from: Place,
-) -> u8
-    ensures { result ≡ join_from_refusal store.now destination list count from }
+) -> Result<(), Refusal>
+    ensures { number_found result ≡ join_from_refusal store.now destination list.now.items list.now.count from }
 {
-    let found = super::listed_refusal(store, destination, list, count);
-    let found = strlib::check(found, 4, is_place(list, count, from));
-    strlib::check_all_clear(found, store, destination, list, count)
+    super::check_listed(store, destination, list)?;
+    strlib::check(is_place(list, from), Refusal::Position)?;
+    strlib::check_all_clear(destination, list)
 }
 
 // One round of a join: the destination then holds the joined characters from the given place on, cut at its maximum.
 pub fn join_from(
     store: &mut [u8],
     destination: StrPtr,
-    list: StrList,
-    count: usize,
+    list: &StrList,
     from: Place,
-) -> RoundAnswer
-    ensures { (round_answered result, store.new) ≡ join_from_rule store.old destination list count from }
+) -> Result<Round, Refusal>
+    ensures { (answered result, store.new) ≡ join_from_rule store.old destination list.now.items list.now.count from }
 {
-    let number = join_from_refusal(store, destination, list, count, from);
-    if number != 0 {
-        return RoundAnswer::Refused(number);
-    }
-    RoundAnswer::Given(super::fill(
+    check_join_from(store, destination, list, from)?;
+    let items: &[StrPtr] = &list.items;
+    Ok(super::fill(
         store,
         destination,
-        list,
-        count,
+        &items[..list.count],
         from.string - 1,
         from.character - 1,
     ))

@@ -16,8 +16,7 @@ use Rattle.strlib.specs.Pointer.{store_fits, good_in, text_of, characters, reada
 use Rattle.strlib.specs.Refusal.{refused, gives, also}
 use Rattle.strlib.specs.declared.StrPtr.{StrPtr}
 use Rattle.compare.specs.Order.{order_z, order_n, sign_of}
-use Rattle.compare.specs.Compare.{holds, length_decides, translates, translated, order_at, pairs, unequal_from, decided, decision, comparison, compare_checks, compare_refusal, compare_rule}
-use Rattle.compare.specs.declared.Decision.{Decision}
+use Rattle.compare.specs.Compare.{Decision, holds, length_decides, translates, translated, order_at, pairs, unequal_from, decided, decision, comparison, compare_checks, compare_refusal, compare_rule}
 
 -- t' is what the machine reads back from the bits of t
 pub translation_checked : (t t' : ℤ) (b : Bool) (k r : ℕ) → b ≡ translates t' → t' ≡ t → r ≡ also k 3 b → r ≡ also k 3 (translates t)

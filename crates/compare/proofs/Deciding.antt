@@ -15,9 +15,8 @@ use Rattle.strlib.proofs.Refusing.{bool_case}
 use Rattle.strlib.proofs.Texts.{character_at}
 use Rattle.strlib.specs.Pointer.{characters}
 use Rattle.compare.specs.Order.{order_z, order_n}
-use Rattle.compare.specs.Compare.{pairs, length_decides, order_at, unequal_from, decided, decision}
+use Rattle.compare.specs.Compare.{Decision, pairs, length_decides, order_at, unequal_from, decided, decision}
 use Rattle.compare.specs.Inner.{Paired, Ended, tail_decision}
-use Rattle.compare.specs.declared.Decision.{Decision}
 use Rattle.compare.proofs.Extending.{extent, pairs_unpadded}
 use Rattle.compare.proofs.Ordering.{order_plain}
 use Rattle.compare.proofs.Pairing.{FirstFrom, first_from, first_of, unequal_is, inside_is, padded_in, padded_past}

@@ -12,9 +12,8 @@ use Rattle.strlib.proofs.Refusing.{bool_case}
 use Rattle.strlib.specs.Pointer.{text_of}
 use Rattle.strlib.specs.declared.StrPtr.{StrPtr}
 use Rattle.compare.specs.Order.{order_z}
-use Rattle.compare.specs.Compare.{pairs, length_decides, translated, order_at, unequal_from, decided, decision, comparison, compare_rule}
+use Rattle.compare.specs.Compare.{Decision, pairs, length_decides, translated, order_at, unequal_from, decided, decision, comparison, compare_rule}
 use Rattle.compare.specs.Extent.{Extent, order_before, unequal_before, decided_before, decision_before, comparison_before, rule_before, Unchanged, Turned}
-use Rattle.compare.specs.declared.Decision.{Decision}
 use Rattle.compare.proofs.Ordering.{eqb_same, order_plain, order_turned, plain_turned, naturals_turned}
 
 pub extent : Extent

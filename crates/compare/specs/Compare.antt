@@ -1,14 +1,27 @@
 -- Comparing: 01, "Comparing", and 02, W4. Assumes nothing.
-use Rattle.std.specs.Prelude.{ℕ, zero, suc, ◌+◌, ◌≤◌, ◌<◌, min, max, ◌≡◌, Bool, cond, not, ◌&&◌, List, [], ◌∷◌, leb, ltb, eqb, length, get_or, ℤ, pos, negsuc, ◌+ℤ◌}
+use Rattle.std.specs.Prelude.{ℕ, zero, suc, ◌+◌, ◌≤◌, ◌<◌, min, max, ◌≡◌, Bool, cond, not, ◌&&◌, List, [], ◌∷◌, leb, ltb, eqb, length, get_or, ℤ, pos, negsuc, ◌+ℤ◌, Result, Ok, Err}
 use Rattle.std.specs.Int.Signed.{le_z}
+use Rattle.std.specs.Ordering.{ordering_index}
+use Rattle.std.specs.declared.cmp.Ordering.{Ordering}
+use Rattle.std.specs.declared.cmp.Ordering.TheVariants.{Less, Equal, Greater}
 use Rattle.strlib.specs.Pointer.{store_fits, good_in, text_of, readable}
-use Rattle.strlib.specs.Refusal.{Outcome, refused, gives, first, outcome}
+use Rattle.strlib.specs.Refusal.{Outcome, refused, gives, first, outcome, refusal_number}
+use Rattle.strlib.specs.declared.refusal.Refusal.{Refusal}
 use Rattle.strlib.specs.declared.StrPtr.{StrPtr}
 use Rattle.compare.specs.Order.{order_z, order_n, sign_of}
-use Rattle.compare.specs.declared.Comparison.{Comparison}
-use Rattle.compare.specs.declared.Compared.{Compared}
-use Rattle.compare.specs.declared.Compared.TheVariants.{Answer, Refused}
-use Rattle.compare.specs.declared.Decision.{Decision}
+use Rattle.compare.specs.declared.Comparison.{Comparison as Answer}
+use Rattle.compare.specs.declared.Decision.{Decision as Decided}
+
+-- what decides a comparison: the order of the two texts, 0 less, 1 equal or 2 greater, and the split
+pub record Decision : Type 0 where
+  pub order : ℕ
+  pub split : ℕ
+
+-- what a comparison gives: yes or no, the sign of length 1 − length 2, and the split
+pub record Comparison : Type 0 where
+  pub yes : Bool
+  pub sign : ℤ
+  pub split : ℕ
 
 -- whether an order, 0 less, 1 equal or 2 greater, is what a code asks for: 0 equal, 1 not equal, 2 greater or equal, 3
 -- less or equal, 4 greater, 5 less (a code over 5 is refused)
@@ -88,7 +101,19 @@ compare_refusal s a b code style t = first (compare_checks s a b code style t)
 unfoldable pub compare_rule : List ℕ → StrPtr → StrPtr → ℕ → ℕ → ℤ → Outcome Comparison
 compare_rule s a b code style t = outcome (compare_refusal s a b code style t) (comparison (text_of s a) (text_of s b) code style t)
 
--- the paper's value for each case of the answer
-abbrev pub compared_of : Compared → Outcome Comparison
-compared_of (Answer c) = gives c
-compared_of (Refused n) = refused n
+-- ---- the code's answers, as the paper has them
+
+abbrev pub ordering_sign : Ordering → ℤ
+ordering_sign Less = negsuc 0
+ordering_sign Equal = pos 0
+ordering_sign Greater = pos 1
+
+abbrev pub decision_of : Decided → Decision
+decision_of d = record { order = ordering_index d.order; split = d.split }
+
+abbrev pub comparison_of : Answer → Comparison
+comparison_of c = record { yes = c.yes; sign = ordering_sign c.sign; split = c.split }
+
+abbrev pub compared_of : Result Answer Refusal → Outcome Comparison
+compared_of (Ok c) = gives (comparison_of c)
+compared_of (Err refusal) = refused (refusal_number refusal)

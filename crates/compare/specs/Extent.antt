@@ -4,9 +4,7 @@ use Rattle.strlib.specs.Pointer.{text_of}
 use Rattle.strlib.specs.Refusal.{Outcome, outcome}
 use Rattle.strlib.specs.declared.StrPtr.{StrPtr}
 use Rattle.compare.specs.Order.{order_z, order_n, sign_of}
-use Rattle.compare.specs.Compare.{holds, pairs, length_decides, order_at, decision, compare_refusal, compare_rule}
-use Rattle.compare.specs.declared.Comparison.{Comparison}
-use Rattle.compare.specs.declared.Decision.{Decision}
+use Rattle.compare.specs.Compare.{Decision, Comparison, holds, pairs, length_decides, order_at, decision, compare_refusal, compare_rule}
 
 -- it is added at an index under both lengths, and nowhere else
 pub record Extent : Type 0 where

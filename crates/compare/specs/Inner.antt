@@ -1,8 +1,7 @@
 -- What functions inside the crate ask of their callers, and promise them. Assumes nothing.
 use Rattle.std.specs.Prelude.{ℕ, ◌-◌, ◌≤◌, ◌<◌, min, max, ◌≡◌, true, List, length, get_or, pos}
 use Rattle.strlib.specs.Pointer.{characters}
-use Rattle.compare.specs.Compare.{unequal_from, decided}
-use Rattle.compare.specs.declared.Decision.{Decision}
+use Rattle.compare.specs.Compare.{Decision, unequal_from, decided}
 
 -- n pairs that both texts have, all of characters
 pub record Paired (xs ys : List ℕ) (n : ℕ) : Type 0 where

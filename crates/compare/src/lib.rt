@@ -1,66 +1,58 @@
 // Comparing two strings of one store, and the order of two texts wherever they lie.
 #![tactic(auto)]
 
-mod numbers;
 mod padded;
 mod pairs;
 mod refusal;
 
+use std::cmp::Ordering;
+
 ghost use Rattle.std.specs.Prelude.{◌≡◌, true, ◌<◌, pos, ◌+ℤ◌};
+ghost use Rattle.std.specs.Ordering.{ordering_index};
 ghost use Rattle.strlib.specs.Pointer.{characters};
 ghost use Rattle.compare.specs.Order.{order_z};
-ghost use Rattle.compare.specs.Compare.{holds, translates, unequal_from, decision, compare_rule, compared_of};
+ghost use Rattle.compare.specs.Compare.{holds, translates, unequal_from, decision, decision_of, compare_rule, compared_of};
 ghost use Rattle.compare.specs.Inner.{Paired, Ended, tail_decision};
 
 pub use padded::padded_order;
-use strlib::StrPtr;
+use strlib::{Refusal, StrPtr};
 
-// The answer: whether the code's relation holds, the sign of length 1 − length 2, and the split.
+// The answer: whether the code's relation holds, the order of the two lengths, and the split.
 #[derive(Clone, Copy)]
 pub struct Comparison {
     pub yes: bool,
-    pub sign: i8,
+    pub sign: Ordering,
     pub split: usize,
-}
-
-#[derive(Clone, Copy)]
-pub enum Compared {
-    Answer(Comparison),
-    Refused(u8),
 }
 
 // What decides, whatever the code: the order of the two texts, and the split.
 #[derive(Clone, Copy)]
 struct Decision {
-    pub order: usize,
+    pub order: Ordering,
     pub split: usize,
 }
 
-// For each code, whether it holds of less, of equal and of greater.
-const MARKS: [[bool; 3]; 6] = [
-    [false, true, false],
-    [true, false, true],
-    [false, true, true],
-    [true, true, false],
-    [false, false, true],
-    [true, false, false],
-];
-
-fn mark(code: usize, order: usize) -> bool
-    requires { (code < 6) × (order < 3) }
-    ensures { result ≡ holds code order }
+// Whether a code, 0 to 5, holds of an order.
+fn mark(code: usize, order: Ordering) -> bool
+    requires { code < 6 }
+    ensures { result ≡ holds code (ordering_index order) }
 {
-    MARKS[code][order]
+    match code {
+        0 => order.is_eq(),
+        1 => order.is_ne(),
+        2 => order.is_ge(),
+        3 => order.is_le(),
+        4 => order.is_gt(),
+        _ => order.is_lt(),
+    }
 }
 
 // The order of x and y + t as whole numbers.
-fn order(x: u8, y: u8, t: i64) -> usize
+fn order(x: u8, y: u8, t: i64) -> Ordering
     requires { translates t ≡ true }
-    ensures { result ≡ order_z (pos x) (pos y +ℤ t) }
+    ensures { ordering_index result ≡ order_z (pos x) (pos y +ℤ t) }
 {
-    let a = x as i64;
-    let b = (y as i64) + t;
-    numbers::pick(a < b, 0, numbers::pick(b < a, 2, 1))
+    (x as i64).cmp(&((y as i64) + t))
 }
 
 // Of the first n pairs, which both texts have, the index of the first unequal one, or n. Where the first pair tells, no
@@ -72,7 +64,7 @@ fn first_unequal(x: &[u8], y: &[u8], t: i64, n: usize) -> usize
     if n == 0 {
         return 0;
     }
-    if order(x[0], y[0], t) != 1 {
+    if order(x[0], y[0], t).is_ne() {
         return 0;
     }
     pairs::by_blocks(x, y, t, n)
@@ -81,7 +73,7 @@ fn first_unequal(x: &[u8], y: &[u8], t: i64, n: usize) -> usize
 // Past the shorter text's end, in padded style: the longer one's tail beside blanks, and nothing translated.
 fn decide_tail(x: &[u8], y: &[u8], n: usize) -> Decision
     requires { Ended x.now y.now n }
-    ensures { result ≡ tail_decision x.now y.now }
+    ensures { decision_of result ≡ tail_decision x.now y.now }
 {
     let d = pairs::tail_end(x, y, n);
     if d < x.len() {
@@ -96,16 +88,19 @@ fn decide_tail(x: &[u8], y: &[u8], n: usize) -> Decision
             split: d + 1,
         };
     }
-    Decision { order: 1, split: 0 }
+    Decision {
+        order: Ordering::Equal,
+        split: 0,
+    }
 }
 
 // The pairs that both texts have, translated, up to the first unequal one; else the tail, in padded style, or the
 // lengths, in exact style.
 fn decide(x: &[u8], y: &[u8], style: usize, t: i64) -> Decision
     requires { (translates t ≡ true) × (characters x.now ≡ true) × (characters y.now ≡ true) }
-    ensures { result ≡ decision x.now y.now style t }
+    ensures { decision_of result ≡ decision x.now y.now style t }
 {
-    let n = numbers::shorter(x.len(), y.len());
+    let n = x.len().min(y.len());
     let d = first_unequal(x, y, t, n);
     if d < n {
         return Decision {
@@ -116,13 +111,16 @@ fn decide(x: &[u8], y: &[u8], style: usize, t: i64) -> Decision
     if style == 0 {
         return decide_tail(x, y, n);
     }
-    if numbers::length_decides(style, x.len(), y.len()) {
+    if style == 1 && x.len() != y.len() {
         return Decision {
-            order: numbers::order_of(x.len(), y.len()),
+            order: x.len().cmp(&y.len()),
             split: n + 1,
         };
     }
-    Decision { order: 1, split: 0 }
+    Decision {
+        order: Ordering::Equal,
+        split: 0,
+    }
 }
 
 // Compares string 1 with string 2, translated for the extent of the shorter one, in a style, and says whether the code's
@@ -134,19 +132,16 @@ pub fn compare(
     code: usize,
     style: usize,
     translation: i64,
-) -> Compared
+) -> Result<Comparison, Refusal>
     ensures { compared_of result ≡ compare_rule store.now string1 string2 code style translation }
 {
-    let found = refusal::compare_refusal(store, string1, string2, code, style, translation);
-    if found != 0 {
-        return Compared::Refused(found);
-    }
+    refusal::check_compare(store, string1, string2, code, style, translation)?;
     let x = strlib::text(store, string1);
     let y = strlib::text(store, string2);
     let d = decide(x, y, style, translation);
-    Compared::Answer(Comparison {
+    Ok(Comparison {
         yes: mark(code, d.order),
-        sign: numbers::sign_of(x.len(), y.len()),
+        sign: x.len().cmp(&y.len()),
         split: d.split,
     })
 }

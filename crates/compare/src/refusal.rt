@@ -1,34 +1,36 @@
 // The refusal of a comparison, found in the order of document 01.
-ghost use Rattle.std.specs.Prelude.{◌≡◌};
-ghost use Rattle.strlib.specs.Refusal.{also};
+ghost use Rattle.std.specs.Prelude.{◌≡◌, cond};
+ghost use Rattle.strlib.specs.Refusal.{number_found};
 ghost use Rattle.compare.specs.Compare.{translates, compare_refusal};
 
-use super::numbers;
-use strlib::StrPtr;
+use strlib::{Refusal, StrPtr};
 
-fn check_translation(found: u8, translation: i64) -> u8
-    ensures { result ≡ also found 3 (translates translation) }
+fn check_translation(translation: i64) -> Result<(), Refusal>
+    ensures { number_found result ≡ cond (translates translation) 0 3 }
 {
-    strlib::check(found, 3, numbers::in_translation(translation))
+    strlib::check(
+        (StrPtr::TRANSLATION_MIN..=StrPtr::TRANSLATION_MAX).contains(&translation),
+        Refusal::Range,
+    )
 }
 
-pub fn compare_refusal(
+pub fn check_compare(
     store: &[u8],
     string1: StrPtr,
     string2: StrPtr,
     code: usize,
     style: usize,
     translation: i64,
-) -> u8
-    ensures { result ≡ compare_refusal store.now string1 string2 code style translation }
+) -> Result<(), Refusal>
+    ensures { number_found result ≡ compare_refusal store.now string1 string2 code style translation }
 {
     let n = store.len();
-    let found = strlib::check_store(store);
-    let found = strlib::check(found, 3, code <= StrPtr::CODE_MAX);
-    let found = strlib::check(found, 3, style <= StrPtr::STYLE_MAX);
-    let found = check_translation(found, translation);
-    let found = strlib::check_good(found, n, string1);
-    let found = strlib::check_good(found, n, string2);
-    let found = strlib::check_readable(found, store, string1);
-    strlib::check_readable(found, store, string2)
+    strlib::check_store(store)?;
+    strlib::check(code <= StrPtr::CODE_MAX, Refusal::Range)?;
+    strlib::check(style <= StrPtr::STYLE_MAX, Refusal::Range)?;
+    check_translation(translation)?;
+    strlib::check_good(n, string1)?;
+    strlib::check_good(n, string2)?;
+    strlib::check_readable(store, string1)?;
+    strlib::check_readable(store, string2)
 }

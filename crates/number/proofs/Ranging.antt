@@ -1,7 +1,7 @@
 -- Laws of the base and the range, and of a number made from its sign and magnitude: in the range nothing overflows.
 -- Assumes nothing.
 use mathlib.Core.Path.{◌≡◌, refl, ◌∙◌}
-use mathlib.Core.Bool.{Bool, true, false, and-true, true≢false}
+use mathlib.Core.Bool.{Bool, true, false, cond, and-true, true≢false}
 use Prim.Native.Nat.{ℕ, zero, suc, ◌≤◌, ◌<◌}
 use native.Mathlib.Omega.{arith}
 use lib.Dec.{T, leb}
@@ -15,6 +15,11 @@ use borrow.Author.Tests.{leb-true, le-leb, lt-leb, ltb-true}
 use Rattle.strlib.proofs.Refusing.{and_both}
 use Rattle.number.specs.Limits.{is_base, in_range}
 use Rattle.number.specs.Text.{signed}
+
+-- a check that was passed
+pub cond_passed : (b : Bool) (n : ℕ) → 0 ≡ cond b 0 (suc n) → b ≡ true
+cond_passed true n e = refl
+cond_passed false n e = absurd (omega (arith, e))
 
 pub base_is : (base : ℕ) → is_base base ≡ true → (2 ≤ base) × (base ≤ 10)
 unfolding is_base

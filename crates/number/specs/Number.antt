@@ -1,19 +1,12 @@
 -- The two calls: 01, "Numbers" and "Refusal numbers". Assumes nothing.
 use Rattle.std.specs.Prelude.{ℕ, ◌≡◌, Bool, true, List, [], ◌∷◌, ◌++◌, leb, ℤ, length}
 use Rattle.strlib.specs.Pointer.{sized, store_fits, good_in, text_of, readable}
-use Rattle.strlib.specs.Refusal.{Outcome, refused, gives, first, outcome, ruled}
+use Rattle.strlib.specs.Refusal.{Outcome, gives, first, outcome, ruled}
 use Rattle.strlib.specs.Store.{put}
 use Rattle.strlib.specs.declared.StrPtr.{StrPtr}
 use Rattle.number.specs.Limits.{is_base, in_range}
 use Rattle.number.specs.Text.{is_number, number_of}
 use Rattle.number.specs.Written.{written}
-use Rattle.number.specs.declared.NumberAnswer.{NumberAnswer}
-use Rattle.number.specs.declared.NumberAnswer.TheVariants.{Given, Refused}
-
--- the paper's value for each case of the answer
-abbrev pub number_answered : NumberAnswer → Outcome ℤ
-number_answered (Given z) = gives z
-number_answered (Refused n) = refused n
 
 -- ---- reading
 

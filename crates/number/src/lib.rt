@@ -7,10 +7,3 @@ mod writer;
 
 pub use reader::read;
 pub use writer::write;
-
-// The answer of a reading.
-#[derive(Clone, Copy)]
-pub enum NumberAnswer {
-    Given(i64),
-    Refused(u8),
-}

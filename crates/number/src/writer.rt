@@ -1,6 +1,6 @@
 // Writing: a minus if negative, then the fewest digits, from the destination's start on.
 ghost use Rattle.std.specs.Prelude.{◌≡◌, true, ◌+◌, ◌<◌, nat_abs, length};
-ghost use Rattle.strlib.specs.Refusal.{answered};
+ghost use Rattle.strlib.specs.Refusal.{number_found, answered};
 ghost use Rattle.strlib.specs.Store.{put};
 ghost use Rattle.number.specs.Limits.{is_base, in_range};
 ghost use Rattle.number.specs.Written.{digits, written};
@@ -8,17 +8,13 @@ ghost use Rattle.number.specs.Number.{write_rule};
 ghost use Rattle.number.specs.Inner.{unwritable, Countable, Room, TextRoom};
 
 use super::limits;
-use strlib::{StrAnswer, StrPtr};
+use strlib::{Refusal, StrPtr};
 
 fn magnitude(value: i64) -> usize
     requires { in_range value ≡ true }
     ensures { result ≡ nat_abs value }
 {
-    if value < 0 {
-        (0 - value) as usize
-    } else {
-        value as usize
-    }
+    value.unsigned_abs() as usize
 }
 
 // How many digits n has.
@@ -80,27 +76,27 @@ fn put_number(store: &mut [u8], at: usize, value: i64, base: usize, count: usize
     }
 }
 
-fn write_refusal(store: &[u8], destination: StrPtr, value: i64, base: usize) -> u8
-    ensures { result ≡ unwritable store.now destination value base }
+fn check_write(store: &[u8], destination: StrPtr, value: i64, base: usize) -> Result<(), Refusal>
+    ensures { number_found result ≡ unwritable store.now destination value base }
 {
-    let found = strlib::check_store(store);
-    let found = strlib::check(found, 3, limits::is_base(base));
-    let found = strlib::check_good(found, store.len(), destination);
-    strlib::check(found, 8, limits::in_range(value))
+    strlib::check_store(store)?;
+    strlib::check(limits::is_base(base), Refusal::Range)?;
+    strlib::check_good(store.len(), destination)?;
+    strlib::check(limits::in_range(value), Refusal::Value)
 }
 
 // Writes a number in a base into a string, whose new length is in the returned pointer.
-pub fn write(store: &mut [u8], destination: StrPtr, value: i64, base: usize) -> StrAnswer
+pub fn write(
+    store: &mut [u8],
+    destination: StrPtr,
+    value: i64,
+    base: usize,
+) -> Result<StrPtr, Refusal>
     ensures { (answered result, store.new) ≡ write_rule store.old destination value base }
 {
-    let found = write_refusal(store, destination, value, base);
-    if found != 0 {
-        return StrAnswer::Refused(found);
-    }
+    check_write(store, destination, value, base)?;
     let count = text_length(value, base);
-    if destination.maximum < count {
-        return StrAnswer::Refused(6);
-    }
+    strlib::check(count <= destination.maximum, Refusal::Room)?;
     put_number(store, destination.start, value, base, count);
-    StrAnswer::Given(destination.sized(count))
+    Ok(destination.sized(count))
 }

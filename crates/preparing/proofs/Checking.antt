@@ -1,31 +1,26 @@
 -- Laws of what refuses a translation. Assumes nothing.
 use mathlib.Core.Path.{◌≡◌, refl, sym, ◌∙◌}
-use mathlib.Core.Bool.{true}
+use mathlib.Core.Bool.{true, cond}
 use mathlib.Core.List.{List}
 use Prim.Native.Nat.{ℕ, ◌≤◌}
 use lib.Dec.{leb}
 use lib.ListN.{length, take}
-use borrow.Author.Rules.{rules}
+use native.Mathlib.Omega.{arith}
 use borrow.Author.Tests.{leb-true, le-leb}
 use Rattle.strlib.proofs.Checking.{first_both}
 use Rattle.strlib.proofs.Pointing.{fits_is}
-use Rattle.strlib.proofs.Refusing.{first_is, first_before, first_behind, passed}
+use Rattle.strlib.proofs.Refusing.{passed}
 use Rattle.strlib.proofs.Texts.{texts_readable}
 use Rattle.strlib.specs.Pointer.{store_fits, good_in, all, characters, readable}
-use Rattle.strlib.specs.Refusal.{first, also}
+use Rattle.strlib.specs.Refusal.{first, refusal_number}
+use Rattle.strlib.specs.declared.refusal.Refusal.{Refusal}
+use Rattle.strlib.proofs.Answering.{here, next, next_all}
+use Rattle.std.proofs.lemmas.List.{take_all, length-take}
 use Rattle.strlib.specs.declared.StrPtr.{StrPtr}
 use Rattle.states.specs.State.{total}
 use Rattle.preparing.proofs.Listing.{total_is}
 use Rattle.preparing.specs.Inner.{source_refusal}
 use Rattle.preparing.specs.Listed.{listed, total_of, source_checks, size_checks, translate_refusal}
-
-pub list_checked : (s : List ℕ) (list : List StrPtr) (count found₁ : ℕ) → found₁ ≡ also 0 3 (store_fits s)
-    → (found₂ : ℕ) → found₂ ≡ also found₁ 3 (leb count 32) → (found₃ : ℕ) → found₃ ≡ also found₂ 1 (all (good_in (length s)) (take count list))
-    → (found₄ : ℕ) → found₄ ≡ also found₃ 2 (all (readable s) (take count list)) → found₄ ≡ source_refusal s list count
-unfolding source_refusal
-list_checked s list count found₁ e₁ found₂ e₂ found₃ e₃ found₄ e₄ = first_is (source_checks s list count) refl found₄ (rw (e₄, e₃, e₂, e₁))
-
-pub ruleset list_laws = (rules, list_checked)
 
 -- what is known where they find nothing
 record SourcePassed (s : List ℕ) (list : List StrPtr) (count : ℕ) : Type 0 where
@@ -38,26 +33,24 @@ source_passed s list count e =
     let ok = passed (source_checks s list count) refl e in
     record { small = fits_is s ok.0; few = leb-true _ _ ok.1.0; plain = ok.1.1.1.0 }
 
-module _ (s : List ℕ) (list : List StrPtr) (count words : ℕ) where
-  module _ (k : ℕ) (e : k ≡ source_refusal s list count) where
-    pub list_refused : (k ≡ 0 → ⊥) → k ≡ translate_refusal s list count words
-    unfolding source_refusal translate_refusal
-    list_refused h = first_before (source_checks s list count) (size_checks s list count words) k e h
+-- ---- the sizes, where nothing is refused of the list, whose listed strings are ps, of n characters together
 
-    module _ (z : k ≡ 0) where
-      behind : translate_refusal s list count words ≡ first (size_checks s list count words)
-      unfolding source_refusal translate_refusal
-      behind = first_behind (source_checks s list count) (size_checks s list count words) refl (sym e ∙ z)
+module _ (s : List ℕ) (list : List StrPtr) (count words : ℕ) (z : 0 ≡ source_refusal s list count) (ps : List StrPtr) (e : ps ≡ take count list)
+    (n : ℕ) (h : n ≡ total_of s ps (length ps)) where
+  same_total : n ≡ total (listed s list count)
+  unfolding source_refusal
+  same_total =
+      let ok = source_passed s list count (sym z) in
+      let few : length (take count list) ≤ 32 = simp length-take (omega (arith, ok.few)) in
+      h ∙ rw e (total_is s (take count list) (length (take count list)) ok.small few ∙ rw (take_all (length (take count list)) (take count list) (omega arith)))
 
-      same_total : total_of s list count ≡ total (listed s list count)
-      unfolding source_refusal
-      same_total = let ok = source_passed s list count (sym e ∙ z) in total_is s list count ok.small ok.few
+  pub size_refused : (x : Refusal) → refusal_number x ≡ cond (leb n 240) 0 9 → refusal_number x ≡ translate_refusal s list count words
+  unfolding source_refusal translate_refusal
+  size_refused x f = next_all (source_checks s list count) (size_checks s list count words) refl (refusal_number x) z (here x (leb (total (listed s list count)) 240) 9 (cond (leb 31461 words) 0 9) (rw (← same_total) f))
 
-      pub size_checked : (n found₁ : ℕ) → n ≡ total_of s list count → found₁ ≡ also 0 9 (leb n 240)
-          → (found₂ : ℕ) → found₂ ≡ also found₁ 9 (leb 31461 words) → found₂ ≡ translate_refusal s list count words
-      size_checked n found₁ en e₁ found₂ e₂ = first_is (size_checks s list count words) refl found₂ (rw (e₂, e₁, en, same_total)) ∙ sym behind
-
-pub ruleset refusal_laws = (rules, list_refused, size_checked)
+  pub size_checked : (k : ℕ) → ◌≡◌ {A = ℕ} 0 (cond (leb n 240) 0 9) → k ≡ cond (leb 31461 words) 0 9 → k ≡ translate_refusal s list count words
+  unfolding source_refusal translate_refusal
+  size_checked k f g = next_all (source_checks s list count) (size_checks s list count words) refl k z (next (leb (total (listed s list count)) 240) 8 k (cond (leb 31461 words) 0 9) (rw (← same_total) f) g)
 
 -- ---- for callers
 

@@ -1,16 +1,15 @@
 -- Laws of the strings of a list, and of counting their characters. Assumes nothing.
 use mathlib.Core.Path.{◌≡◌, refl, sym, ap, ◌∙◌}
 use mathlib.Core.List.{List, [], ◌∷◌}
-use Prim.Native.Nat.{ℕ, zero, suc, ◌+◌, ◌-◌, ◌*◌, ◌≤◌, ◌<◌}
+use Prim.Native.Nat.{ℕ, zero, suc, ◌+◌, ◌-◌, ◌≤◌, ◌<◌}
 use native.Mathlib.Omega.{arith}
+use mathlib.Core.Logic.{◌⊎◌, ⊎_elim}
+use Rattle.std.proofs.lemmas.List.{drop_all, drop_more, take_all}
 use borrow.Author.Rules.{rules}
 use borrow.Author.Tests.{le-leb, lt-leb}
-use native.Mathlib.Nat.{zero-add}
 use native.Mathlib.Numerals.{add-one}
 use lib.ListN.{length, take, drop, get_or, length-take, length-drop, drop_of_length-le}
 use lib.Seq.{drop-cons, get_or-take, take-take}
-use mir.Syntax.{w64}
-use mir.Val.{Fits}
 use Rattle.strlib.proofs.Texts.{texts_long, texts_take, listed_text}
 use Rattle.strlib.specs.Pointer.{store_fits, text_of, texts}
 use Rattle.strlib.specs.declared.StrPtr.{StrPtr}
@@ -55,43 +54,30 @@ module _ (s : List ℕ) (list : List StrPtr) (n : ℕ) where
   unfolding total_of store_fits
   total_is room few = rw (le-leb (length s) 65536 room, le-leb n 32 few)
 
-  pub total_stored : 65536 < length s → 0 ≡ total_of s list n
+module _ (s : List ℕ) (ps : List StrPtr) where
+  pub total_over : (65536 < length s) ⊎ ((length s ≤ 65536) × (32 < length ps)) → 0 ≡ total_of s ps (length ps)
   unfolding total_of store_fits
-  total_stored h = rw (lt-leb (length s) 65536 h)
+  total_over h = ⊎_elim (λ a. rw (lt-leb (length s) 65536 a)) (λ b. rw (le-leb (length s) 65536 b.0, lt-leb (length ps) 32 b.1)) h
 
-  pub total_many : length s ≤ 65536 → 32 < n → 0 ≡ total_of s list n
-  unfolding total_of store_fits
-  total_many room h = rw (le-leb (length s) 65536 room, lt-leb n 32 h)
+  -- `sum` are those of the first i strings
+  module _ (i sum : ℕ) (e : sum + total (texts s (drop i ps)) ≡ total (texts s ps)) where
+    pub total_done : length ps ≤ i → length s ≤ 65536 → length ps ≤ 32 → sum ≡ total_of s ps (length ps)
+    unfolding texts
+    total_done h room few =
+        let z : total (texts s (drop i ps)) ≡ 0 = rw (drop_all i ps h) in
+        let q : sum ≡ total (texts s ps) = omega arith in
+        let p : texts s (take (length ps) ps) ≡ texts s ps = rw (take_all (length ps) ps (omega arith)) in
+        q ∙ sym (total_is s ps (length ps) room few ∙ rw p)
 
--- `sum` are those of the first i strings
-pub total_none : (ss : List (List ℕ)) → 0 + total (drop 0 ss) ≡ total ss
-total_none ss = zero-add (total ss)
-
-module _ (s : List ℕ) (list : List StrPtr) (n : ℕ) (few : n ≤ 32) (size : length list ≡ 32) (i sum : ℕ) (e : sum + total (drop i (listed s list n)) ≡ total (listed s list n)) where
-  pub total_end : length s ≤ 65536 → n ≤ i → sum ≡ total_of s list n
-  total_end room h =
-      let p : total (drop i (listed s list n)) ≡ 0 = rw (listed_end s list n few size i h) in
-      let q : sum ≡ total (listed s list n) = omega arith in
-      q ∙ sym (total_is s list n room few)
-
-  module _ (x : List ℕ) (d : StrPtr) (p : x ≡ text_of s (get_or list i d)) (h : i < n) where
-    pub total_step : (sum + length x) + total (drop (i + 1) (listed s list n)) ≡ total (listed s list n)
-    total_step =
-        let q : total (drop i (listed s list n)) ≡ length (text_of s (get_or list i d)) + total (drop (i + 1) (listed s list n)) = rw (listed_cons s list n few size i d h) in
-        let r : length x ≡ length (text_of s (get_or list i d)) = ap length p in
+    pub total_step : (d : StrPtr) (x : List ℕ) → i < length ps → x ≡ text_of s (get_or ps i d) → (sum + length x) + total (texts s (drop (i + 1) ps)) ≡ total (texts s ps)
+    unfolding texts
+    total_step d x h q =
+        let r : length x ≡ length (text_of s (get_or ps i d)) = ap length q in
+        let t : sum + (length (text_of s (get_or ps i d)) + total (texts s (drop (i + 1) ps))) ≡ total (texts s ps) = rw (drop_more ps i d h) at e in
         omega arith
 
-    module _ (room : length s ≤ 65536) (b : sum ≤ 65536 * i) where
-      short : length x ≤ 65536
-      short = omega (arith, text_le s (get_or list i d), ap length p)
-
-      pub total_small : sum + length x ≤ 65536 * (i + 1)
-      total_small = omega (arith, short)
-
-      pub total_fits : Fits w64 (sum + length x)
-      total_fits = omega (arith, short)
-
-pub ruleset total_laws = (rules, total_stored, total_many, total_none, total_end, total_step, total_small, total_fits)
+pub text_small : (s : List ℕ) (p : StrPtr) (x : List ℕ) → length s ≤ 65536 → x ≡ text_of s p → length x ≤ 65536
+text_small s p x room q = omega (arith, text_le s p, ap length q)
 
 -- ---- the length of a string by its number
 

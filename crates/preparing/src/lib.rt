@@ -2,55 +2,47 @@
 // many strings count in a row, and what the row's default is: 01, "The search table".
 #![tactic(auto)]
 
-ghost use Rattle.std.specs.Prelude.{◌≡◌};
+ghost use Rattle.std.specs.Prelude.{◌≡◌, length};
+ghost use Rattle.strlib.specs.Refusal.{number_found};
 ghost use Rattle.states.specs.Fill.{limit, if_open, root_to};
 ghost use Rattle.preparing.specs.Listed.{translate_refusal, total_of};
 ghost use Rattle.preparing.specs.Inner.{source_refusal};
 
-use strlib::{StrList, StrPtr};
+use strlib::{Refusal, StrList, StrPtr};
 
 // ---- the list
 
-// The characters of the first m strings together, 0 where the store or m is over its limit.
-pub fn total_of(store: &[u8], list: StrList, m: usize) -> usize
-    ensures { result ≡ total_of store.now list m }
+// The characters of so many strings together, 0 where the store or their number is over its limit.
+pub fn total_of(store: &[u8], strings: &[StrPtr]) -> usize
+    ensures { result ≡ total_of store.now strings.now (length strings.now) }
 {
-    if StrPtr::STORE_MAX < store.len() {
+    if StrPtr::STORE_MAX < store.len() || StrPtr::LIST_MAX < strings.len() {
         return 0;
     }
-    if StrPtr::LIST_MAX < m {
-        return 0;
-    }
-    let mut i = 0;
     let mut sum = 0;
-    while i < m {
-        let x = strlib::text(store, list[i]);
-        sum += x.len();
-        i += 1;
+    for p in strings {
+        sum += strlib::text(store, *p).len();
     }
     sum
 }
 
-fn list_refusal(store: &[u8], list: StrList, count: usize) -> u8
-    ensures { result ≡ source_refusal store.now list count }
+fn check_list(store: &[u8], list: &StrList) -> Result<(), Refusal>
+    ensures { number_found result ≡ source_refusal store.now list.now.items list.now.count }
 {
-    let found = strlib::check_store(store);
-    let found = strlib::check(found, 3, count <= StrPtr::LIST_MAX);
-    let found = strlib::check_all_good(found, store, list, count);
-    strlib::check_all_readable(found, store, list, count)
+    strlib::check_store(store)?;
+    strlib::check(list.count <= StrPtr::LIST_MAX, Refusal::Range)?;
+    strlib::check_all_good(store, list)?;
+    strlib::check_all_readable(store, list)
 }
 
-// What refuses a translation into so many words, 0 for nothing.
-pub fn translate_refusal(store: &[u8], list: StrList, count: usize, words: usize) -> u8
-    ensures { result ≡ translate_refusal store.now list count words }
+// What refuses a translation into so many words.
+pub fn check_translate(store: &[u8], list: &StrList, words: usize) -> Result<(), Refusal>
+    ensures { number_found result ≡ translate_refusal store.now list.now.items list.now.count words }
 {
-    let found = list_refusal(store, list, count);
-    if found != 0 {
-        return found;
-    }
-    let n = total_of(store, list, count);
-    let found = strlib::check(0, 9, n <= StrPtr::LIST_CHARACTERS_MAX);
-    strlib::check(found, 9, StrPtr::TABLE_MIN <= words)
+    check_list(store, list)?;
+    let n = total_of(store, list.strings());
+    strlib::check(n <= StrPtr::LIST_CHARACTERS_MAX, Refusal::Translation)?;
+    strlib::check(StrPtr::TABLE_MIN <= words, Refusal::Translation)
 }
 
 // ---- a row, by the number of the string that closes its text (0 for none)

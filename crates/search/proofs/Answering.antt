@@ -6,34 +6,26 @@ use mathlib.Core.List.{List}
 use native.Mathlib.Omega.{arith}
 use lib.Dec.{leb}
 use lib.ListN.{length, take, drop, length-take, length-drop}
-use borrow.Author.Rules.{rules}
-use borrow.Author.Tests.{leb-true}
+use Rattle.std.specs.Prelude.{Option, Some, None, Result, Err}
+use Rattle.strlib.specs.declared.refusal.Refusal.{Refusal}
+use Rattle.std.specs.Option.{option_map}
 use Rattle.strlib.proofs.Pointing.{fits_is, good_is, text_length}
-use Rattle.strlib.proofs.Refusing.{first_is, passed, outcome_no, outcome_yes, outcome_gave, outcome_refused}
+use Rattle.strlib.proofs.Refusing.{passed, outcome_no, outcome_yes, outcome_gave, outcome_refused}
 use Rattle.strlib.specs.Pointer.{part_of, store_fits, good_in, text_of, texts, all, readable}
-use Rattle.strlib.specs.Refusal.{Outcome, refused, gives, also, outcome, Sought, nowhere, at}
+use Rattle.strlib.specs.Refusal.{refused, gives, outcome, Sought, sought_of, sought_answered, refusal_number}
 use Rattle.strlib.specs.declared.StrPtr.{StrPtr}
-use Rattle.search.specs.Search.{Result, nothing, found, plain_search}
+use Rattle.search.specs.Search.{nothing, found, plain_search}
+use Rattle.search.specs.Search.{Result as SoughtResult}
 use Rattle.search.specs.Occurrence.{occurs_at, string_of, Earliest}
-use Rattle.search.specs.Inner.{placed, finding_of, Within}
-use Rattle.search.specs.Rule.{search_checks, search_refusal, sought, parts_of, split_of, given, search_by, search_rule, match_after_rule, before_match_rule}
-use Rattle.search.specs.declared.Match.{Match}
-use Rattle.search.specs.declared.Split.{Split}
+use Rattle.search.specs.Inner.{spot, Within}
+use Rattle.search.specs.Rule.{search_checks, search_refusal, sought, parts_of, split_of, given, search_by}
 use Rattle.search.specs.declared.find.Spot.{Spot}
-use Rattle.search.specs.declared.find.Finding.{Finding}
-use Rattle.search.specs.declared.find.Finding.TheVariants.{Found as FoundAt, Nothing as FoundNothing, Refused as FoundRefused}
 use Rattle.search.proofs.Meaning.{search_law}
-use Rattle.search.proofs.Placing.{placed_some, placed_none}
+use Rattle.std.specs.Result.{IsErrAnd}
+use Rattle.std.proofs.lemmas.Result.{err_from_is_err_and}
+use Rattle.strlib.proofs.Answering.{answer_laws, refusal_some}
 
 module _ (s : List ℕ) (host : StrPtr) (l : List StrPtr) (c : ℕ) where
-  pub search_checked : (found₁ : ℕ) → found₁ ≡ also 0 3 (store_fits s) → (found₂ : ℕ) → found₂ ≡ also found₁ 3 (leb c 32)
-      → (found₃ : ℕ) → found₃ ≡ also found₂ 1 (good_in (length s) host) → (found₄ : ℕ) → found₄ ≡ also found₃ 1 (all (good_in (length s)) (take c l))
-      → (found₅ : ℕ) → found₅ ≡ also found₄ 2 (readable s host) → (found₆ : ℕ) → found₆ ≡ also found₅ 2 (all (readable s) (take c l))
-      → found₆ ≡ search_refusal s host l c
-  unfolding search_refusal
-  search_checked found₁ e₁ found₂ e₂ found₃ e₃ found₄ e₄ found₅ e₅ found₆ e₆ =
-      first_is (search_checks s host l c) refl found₆ (rw (e₆, e₅, e₄, e₃, e₂, e₁))
-
   -- the checks by their names, where all are passed
   pub record SearchPassed : Type 0 where
     pub fits : store_fits s ≡ true
@@ -55,22 +47,6 @@ module _ (s : List ℕ) (host : StrPtr) (l : List StrPtr) (c : ℕ) where
         host_read = ok.1.1.1.1.0;
         list_read = ok.1.1.1.1.1.0;
       }
-
-  -- where nothing was refused
-  module _ (k : ℕ) (e : k ≡ search_refusal s host l c) (z : k ≡ 0) where
-    pub listed_count : c ≤ 32
-    listed_count = leb-true c 32 (search_passed (sym e ∙ z)).count
-
-    module _ (h : List ℕ) (j pos1 pos2 : ℕ) (t : h ≡ text_of s host) (f : placed j pos1 pos2 ≡ plain_search (texts s (take c l)) h) where
-      given_as : (r : Result) → placed j pos1 pos2 ≡ r → gives r ≡ outcome (search_refusal s host l c) (sought s host (take c l))
-      unfolding sought
-      given_as r q = outcome_yes k (search_refusal s host l c) e r _ z (sym q ∙ f ∙ ap (plain_search (texts s (take c l))) t)
-
-      pub listed_nothing : j ≡ 0 → gives nothing ≡ outcome (search_refusal s host l c) (sought s host (take c l))
-      listed_nothing y = given_as nothing (placed_none j pos1 pos2 y)
-
-      pub listed_found : (j ≡ 0 → ⊥) → gives (found j pos1 pos2) ≡ outcome (search_refusal s host l c) (sought s host (take c l))
-      listed_found y = given_as (found j pos1 pos2) (placed_some j pos1 pos2 y)
 
 -- ---- the positions found lie in the host
 
@@ -103,7 +79,7 @@ pub split_is : (host : StrPtr) (j p : ℕ) (front back : StrPtr) → front ≡ p
 unfolding split_of
 split_is host j p front back e f = rw (e, f)
 
--- ---- the answer of a call
+-- ---- where nothing is refused
 
 module _ (s : List ℕ) (host : StrPtr) (l : List StrPtr) (c : ℕ) where
   pub within : (j pos1 pos2 : ℕ) → outcome (search_refusal s host l c) (sought s host (take c l)) ≡ gives (found j pos1 pos2) → Within host pos1 pos2
@@ -117,53 +93,43 @@ module _ (s : List ℕ) (host : StrPtr) (l : List StrPtr) (c : ℕ) where
       let m : length s ≤ 65536 = fits_is s ok.fits in
       record { from = b.0; order = b.1.0; to = omega arith; room = r.0; end = omega arith }
 
-  module _ (r : Finding) (e : finding_of r ≡ outcome (search_refusal s host l c) (sought s host (take c l))) where
-    module _ (p : Spot) (q : r ≡ FoundAt p) where
-      pub found_within : Within host p.pos1 p.pos2
-      found_within = within p.number p.pos1 p.pos2 (sym e ∙ ap finding_of q)
+-- ---- the answer of a call
 
-      pub found_first : Within host p.pos1 p.pos1
-      found_first = within_first host p.pos1 p.pos2 found_within
+-- a refusal goes out as it came
+module _ {A : Type 0} (r : Result (Option A) Refusal) (e : Refusal) (p : IsErrAnd r (λ x. x ≡ e)) where
+  left : sought_answered r ≡ refused (refusal_number e)
+  left = let q = err_from_is_err_and r p in let h : r ≡ Err e = rw (← q.2) q.1 in rw h
 
-      pub found_last : Within host p.pos2 p.pos2
-      found_last = within_last host p.pos1 p.pos2 found_within
+  pub sought_left : (k : ℕ) (x : Sought A) → refusal_number e ≡ k → sought_answered r ≡ outcome k x
+  sought_left k x h = left ∙ outcome_no (refusal_number e) k h x (refusal_some e)
 
-    module _ {A : Type 0} (f : ℕ → ℕ → ℕ → A) where
-      pub answer_found : (p : Spot) (m : A) → r ≡ FoundAt p → m ≡ f p.number p.pos1 p.pos2 → gives (at m) ≡ search_by f s host l c
-      unfolding search_by given
-      answer_found p m q z = let g = outcome_gave _ _ _ (sym e ∙ ap finding_of q) in outcome_yes 0 (search_refusal s host l c) (sym g.0) (at m) _ refl (rw (g.1, z))
+  pub found_left : (f : ℕ → ℕ → ℕ → A) (s : List ℕ) (host : StrPtr) (l : List StrPtr) (c : ℕ) → refused (refusal_number e) ≡ search_by spot s host l c
+      → sought_answered r ≡ search_by f s host l c
+  unfolding search_by
+  found_left f s host l c h = left ∙ outcome_refused (search_refusal s host l c) _ _ (refusal_number e) (sym h)
 
-      pub answer_nothing : r ≡ FoundNothing → gives nowhere ≡ search_by f s host l c
-      unfolding search_by given
-      answer_nothing q = let g = outcome_gave _ _ _ (sym e ∙ ap finding_of q) in outcome_yes 0 (search_refusal s host l c) (sym g.0) nowhere _ refl (rw g.1)
+-- what is given of the place found
+module _ (s : List ℕ) (host : StrPtr) (l : List StrPtr) (c : ℕ) (o : Option Spot) (e : gives (sought_of o) ≡ search_by spot s host l c) where
+  checked : (search_refusal s host l c ≡ 0) × (given spot (sought s host (take c l)) ≡ sought_of o)
+  unfolding search_by
+  checked = outcome_gave _ _ _ (sym e)
 
-      pub answer_refused : (n : ℕ) → r ≡ FoundRefused n → refused n ≡ search_by f s host l c
-      unfolding search_by
-      answer_refused n q = outcome_refused (search_refusal s host l c) (sought s host (take c l)) (given f (sought s host (take c l))) n (sym e ∙ ap finding_of q)
+  pub found_within : (p : Spot) → o ≡ Some p → Within host p.pos1 p.pos2
+  unfolding given
+  found_within p q = go (sought s host (take c l)) refl checked.1
+    where
+      go : (r : SoughtResult) → sought s host (take c l) ≡ r → given spot r ≡ sought_of o → Within host p.pos1 p.pos2
+      go nothing z g = absurd (cc)
+      go (found j pos1 pos2) z g = let h : spot j pos1 pos2 ≡ p = cc in rw (← h) (within s host l c j pos1 pos2 (sym (outcome_yes 0 _ (sym checked.0) _ _ refl (sym z))))
 
-  pub search_is : (a : Outcome (Sought Match)) → a ≡ search_by (parts_of host) s host l c → a ≡ search_rule s host l c
-  unfolding search_rule
-  search_is a e = e
+  pub found_given : {A : Type 0} (f : ℕ → ℕ → ℕ → A) → gives (sought_of (option_map (λ p. f p.number p.pos1 p.pos2) o)) ≡ search_by f s host l c
+  unfolding search_by given
+  found_given f = outcome_yes 0 _ (sym checked.0) _ _ refl (go (sought s host (take c l)) o checked.1)
+    where
+      go : (r : SoughtResult) (o : Option Spot) → given spot r ≡ sought_of o → sought_of (option_map (λ p. f p.number p.pos1 p.pos2) o) ≡ given f r
+      go nothing None g = refl
+      go nothing (Some p) g = absurd (cc)
+      go (found j pos1 pos2) None g = absurd (cc)
+      go (found j pos1 pos2) (Some p) g = let h : spot j pos1 pos2 ≡ p = cc in rw (← h)
 
-  pub match_after_is : (a : Outcome (Sought Split)) → a ≡ search_by (λ j pos1 pos2. split_of host j pos1) s host l c → a ≡ match_after_rule s host l c
-  unfolding match_after_rule
-  match_after_is a e = e
-
-  pub before_match_is : (a : Outcome (Sought Split)) → a ≡ search_by (λ j pos1 pos2. split_of host j pos2) s host l c → a ≡ before_match_rule s host l c
-  unfolding before_match_rule
-  before_match_is a e = e
-
-pub ruleset answer_laws = (
-  rules,
-  found_within,
-  found_first,
-  found_last,
-  answer_found,
-  answer_nothing,
-  answer_refused,
-  search_is,
-  match_after_is,
-  before_match_is,
-)
-
-pub ruleset listed_laws = (rules, search_checked, outcome_no, listed_count, listed_nothing, listed_found)
+pub ruleset search_laws = (answer_laws, sought_left, found_left, found_within, found_given)

@@ -1,63 +1,51 @@
--- Laws of the nested loops. Where p characters were passed, what is left to search is the rest of the host; where k
--- strings were tried at a position, the first that stands there is among the others; each turn keeps both. Assumes
--- nothing.
-use Prim.Native.Nat.{ℕ, zero, suc, ◌+◌, ◌-◌, ◌≤◌, ◌<◌}
-use mathlib.Core.Path.{◌≡◌, refl, sym, ◌∙◌}
-use mathlib.Core.Bool.{Bool, true, false, cond}
-use mathlib.Core.List.{List, [], ◌∷◌}
-use native.Mathlib.Nat.{zero-add}
-use native.Mathlib.Omega.{arith}
-use lib.Dec.{leb}
-use lib.ListN.{length, take, drop, get_or, length-take, length-drop}
-use lib.Seq.{drop-drop, get_or-take}
-use borrow.Author.Rules.{rules}
-use borrow.Author.Tests.{le-leb, lt-leb}
+-- Laws of finding. The first string that stands in front, by a test of each; and where p characters were passed, what is
+-- left to search is the rest of the host. Assumes nothing.
+use Rattle.std.proofs.Common.{ℕ, zero, suc, ◌+◌, ◌-◌, ◌≤◌, ◌<◌, ◌≡◌, refl, sym, ◌∙◌, Bool, true, false, cond, not, List, [], ◌∷◌, length, take, drop, get_or, length-drop, Some, None, ltb, leb, zero-add, arith}
+use Rattle.std.specs.List.{position_or_len}
+use Rattle.std.proofs.lemmas.List.{drop-drop, take_rest}
+use borrow.Author.Tests.{le-leb, lt-leb, lt-ltb}
 use Rattle.strlib.proofs.Pointing.{leb_same}
-use Rattle.strlib.proofs.Listing.{prefix_cons, prefix_end}
-use Rattle.strlib.proofs.Texts.{listed_text}
+use Rattle.strlib.proofs.Texts.{listed_text, texts_long}
 use Rattle.strlib.specs.Pointer.{text_of, texts}
+use Rattle.strlib.specs.Refusal.{nowhere, at}
 use Rattle.strlib.specs.declared.StrPtr.{StrPtr}
-use Rattle.words.proofs.Ending.{rest_is}
-use Rattle.search.specs.Search.{is_prefix, further, closed, length_of, Result, nothing, found, onward, plain_search}
-use Rattle.search.specs.Inner.{placed}
+use Rattle.search.specs.Search.{is_prefix, first_number, further, closed, length_of, Result, nothing, found, onward, plain_search}
+use Rattle.search.specs.Rule.{given}
+use Rattle.search.specs.Inner.{number_of}
 
--- ---- the strings tried at a position
+-- ---- the string in front
 
--- a number among the strings behind the first k, as a number in the list
-abbrev pub raised : ℕ → ℕ → ℕ
-raised k zero = zero
-raised k (suc n) = suc (k + n)
+-- an index found among strings behind one more
+behind : (r n k : ℕ) → number_of (cond (ltb r n) (Some r) None) ≡ k → number_of (cond (ltb (1 + r) (suc n)) (Some (1 + r)) None) ≡ further k
+behind r n k e = let same : ltb (1 + r) (suc n) ≡ ltb r n = leb_same (suc (1 + r)) (suc n) (suc r) n (λ z. omega arith) (λ z. omega arith) in rw same (go (ltb r n) e)
+  where
+    go : (b : Bool) → number_of (cond b (Some r) None) ≡ k → number_of (cond b (Some (1 + r)) None) ≡ further k
+    go true e = rw (← e) (omega arith)
+    go false e = rw (← e)
 
-raised_none : (n : ℕ) → n ≡ raised 0 n
-raised_none zero = refl
-raised_none (suc n) = rw zero-add
+pub closed_position : (s w : List ℕ) (ps : List StrPtr)
+    → number_of (cond (ltb (position_or_len (λ p. is_prefix (text_of s p) w) ps) (length ps)) (Some (position_or_len (λ p. is_prefix (text_of s p) w) ps)) None)
+    ≡ closed (texts s ps) w
+unfolding texts
+closed_position s w [] = refl
+closed_position s w (p ∷ ps) = go (is_prefix (text_of s p) w) (position_or_len (λ p. is_prefix (text_of s p) w) ps) (closed_position s w ps)
+  where
+    go : (b : Bool) (r : ℕ) → number_of (cond (ltb r (length ps)) (Some r) None) ≡ closed (texts s ps) w
+        → number_of (cond (ltb (cond (not b) (1 + r) 0) (suc (length ps))) (Some (cond (not b) (1 + r) 0)) None) ≡ first_number b (closed (texts s ps) w)
+    go true r e = rw (lt-ltb 0 (suc (length ps)) (omega arith))
+    go false r e = behind r (length ps) (closed (texts s ps) w) e
 
-raised_further : (k n : ℕ) → raised k (further n) ≡ raised (k + 1) n
-raised_further k zero = refl
-raised_further k (suc n) = omega arith
+closed_under : (ss : List (List ℕ)) (w : List ℕ) → closed ss w ≤ length ss
+closed_under [] w = omega arith
+closed_under (s ∷ ss) w = go (is_prefix s w) (closed ss w) (closed_under ss w)
+  where
+    go : (b : Bool) (k : ℕ) → k ≤ length ss → first_number b k ≤ suc (length ss)
+    go true k h = omega arith
+    go false zero h = omega arith
+    go false (suc k) h = omega arith
 
--- none of the first k strings stands at the front of w
-unfoldable pub Tried : List ℕ → List StrPtr → ℕ → List ℕ → ℕ → Type 0
-Tried s l c w k = closed (texts s (take c l)) w ≡ raised k (closed (texts s (drop k (take c l))) w)
-
-module _ (s : List ℕ) (l : List StrPtr) (c : ℕ) (w : List ℕ) where
-  pub tried_none : Tried s l c w 0
-  unfolding Tried
-  tried_none = raised_none (closed (texts s (take c l)) w)
-
-  module _ (k : ℕ) (t : Tried s l c w k) where
-    pub tried_all : c ≤ k → closed (texts s (take c l)) w ≡ 0
-    unfolding Tried texts
-    tried_all h = t ∙ rw (prefix_end l c k (omega arith))
-
-    module _ (d : StrPtr) (x : List ℕ) (b : Bool) (p : x ≡ text_of s (get_or l k d)) (q : b ≡ is_prefix x w) (h : k < c) (n : length l ≡ 32) (m : c ≤ 32) where
-      pub tried_more : b ≡ false → Tried s l c w (k + 1)
-      unfolding Tried texts
-      tried_more f = t ∙ rw (prefix_cons l c k d h (omega arith), ← p, ← q, f) (raised_further k (closed (texts s (drop (k + 1) (take c l))) w))
-
-      pub tried_hit : b ≡ true → closed (texts s (take c l)) w ≡ suc k
-      unfolding Tried texts
-      tried_hit f = t ∙ rw (prefix_cons l c k d h (omega arith), ← p, ← q, f) (omega arith)
+pub closed_at : (s : List ℕ) (ps : List StrPtr) (w : List ℕ) (k : ℕ) → suc k ≡ closed (texts s ps) w → k < length ps
+closed_at s ps w k e = omega (arith, closed_under (texts s ps) w, texts_long s ps)
 
 -- ---- the positions passed
 
@@ -96,41 +84,35 @@ module _ (ss : List (List ℕ)) (h : List ℕ) where
   unfolding Passed
   passed_none = rw (le-leb 0 (length h) (omega arith)) (moved_none (plain_search ss h))
 
-  module _ (p : ℕ) (o : Passed ss h p) where
-    pub passed_all : (n k pos1 pos2 : ℕ) → n ≡ k → k ≡ 0 → length h < p → placed n pos1 pos2 ≡ plain_search ss h
-    unfolding Passed placed
-    passed_all n k pos1 pos2 e z m = rw (e, z) (sym (o ∙ rw (lt-leb p (length h) m)))
+  module _ {A : Type 0} (f : ℕ → ℕ → ℕ → A) (p : ℕ) (o : Passed ss h p) where
+    pub passed_all : length h < p → nowhere ≡ given f (plain_search ss h)
+    unfolding Passed given
+    passed_all m = let e : plain_search ss h ≡ nothing = o ∙ rw (lt-leb p (length h) m) in rw e
 
-    module _ (m : p ≤ length h) where
-      here : plain_search ss h ≡ moved p (plain_search ss (drop p h))
-      unfolding Passed
-      here = o ∙ rw (le-leb p (length h) m)
+  module _ (p : ℕ) (o : Passed ss h p) (m : p ≤ length h) where
+    here : plain_search ss h ≡ moved p (plain_search ss (drop p h))
+    unfolding Passed
+    here = o ∙ rw (le-leb p (length h) m)
 
-      passed_more : closed ss (drop p h) ≡ 0 → Passed ss h (p + 1)
-      unfolding Passed
-      passed_more e =
-          let g : leb 1 (length (drop p h)) ≡ leb (p + 1) (length h) = rw length-drop (leb_same 1 (length h - p) (p + 1) (length h) (λ z. omega arith) (λ z. omega arith)) in
-          here ∙ search_on ss p (drop p h) e ∙ rw (g, drop-drop)
+    pub passed_more : 0 ≡ closed ss (take (length h - p) (drop p h)) → Passed ss h (p + 1)
+    unfolding Passed
+    passed_more q =
+        let e : closed ss (drop p h) ≡ 0 = sym (rw take_rest at q) in
+        let g : leb 1 (length (drop p h)) ≡ leb (p + 1) (length h) = rw length-drop (leb_same 1 (length h - p) (p + 1) (length h) (λ z. omega arith) (λ z. omega arith)) in
+        here ∙ search_on ss p (drop p h) e ∙ rw (g, drop-drop)
 
-      passed_hit : (k : ℕ) → closed ss (drop p h) ≡ suc k → plain_search ss h ≡ found (suc k) (p + 1) (p + suc (length_of ss (suc k)))
-      passed_hit k e = here ∙ search_here ss p (drop p h) k e
+    passed_hit : (k : ℕ) → closed ss (drop p h) ≡ suc k → plain_search ss h ≡ found (suc k) (p + 1) (p + suc (length_of ss (suc k)))
+    passed_hit k e = here ∙ search_here ss p (drop p h) k e
 
--- ---- the two together: w is the host from the position on
-
-module _ (s : List ℕ) (l : List StrPtr) (c : ℕ) (h : List ℕ) (p : ℕ) (o : Passed (texts s (take c l)) h p) (m : p ≤ length h) where
-  module _ (k : ℕ) (t : Tried s l c (take (length h - p) (drop p h)) k) where
-    pub find_on : c ≤ k → Passed (texts s (take c l)) h (p + 1)
-    find_on z = passed_more (texts s (take c l)) h p o m (rw (rest_is h p) at (tried_all s l c (take (length h - p) (drop p h)) k t z))
-
-    pub find_hit : (d : StrPtr) (x : List ℕ) (b : Bool) (n pos2 : ℕ) → x ≡ text_of s (get_or l k d) → b ≡ is_prefix x (take (length h - p) (drop p h)) → b ≡ true
-        → k < c → length l ≡ 32 → c ≤ 32 → n ≡ k + 1 → pos2 ≡ p + length x + 1 → placed n (p + 1) pos2 ≡ plain_search (texts s (take c l)) h
-    unfolding placed
-    find_hit d x b n pos2 q r f i j z u v =
-        let e : closed (texts s (take c l)) (drop p h) ≡ suc k = rw (rest_is h p) at (tried_hit s l c (take (length h - p) (drop p h)) k t d x b q r i j z f) in
-        let a : k < length (take c l) = simp length-take (omega arith) in
-        let g : get_or (texts s (take c l)) k [] ≡ x = listed_text s (take c l) k d a ∙ rw (get_or-take c l k d i, q) in
-        let y : p + suc (length x) ≡ pos2 = omega arith in
-        let w : n ≡ suc k = omega arith in
-        rw w (sym (passed_hit (texts s (take c l)) h p o m k e ∙ rw (g, y)))
-
-pub ruleset find_laws = (rules, tried_none, tried_more, passed_none, passed_all, find_on, find_hit)
+-- the string found, whose characters are x
+module _ (s : List ℕ) (ps : List StrPtr) (h : List ℕ) (p : ℕ) (o : Passed (texts s ps) h p) (m : p ≤ length h) where
+  pub find_hit : {A : Type 0} (f : ℕ → ℕ → ℕ → A) (k : ℕ) (d : StrPtr) (x : List ℕ) → x ≡ text_of s (get_or ps k d) → suc k ≡ closed (texts s ps) (take (length h - p) (drop p h))
+      → at (f (k + 1) (p + 1) (p + length x + 1)) ≡ given f (plain_search (texts s ps) h)
+  unfolding given
+  find_hit f k d x q n =
+      let e : suc k ≡ closed (texts s ps) (drop p h) = rw take_rest at n in
+      let i : k < length ps = closed_at s ps (drop p h) k e in
+      let g : get_or (texts s ps) k [] ≡ x = listed_text s ps k d i ∙ sym q in
+      let j : k + 1 ≡ suc k = omega arith in
+      let y : p + length x + 1 ≡ p + suc (length x) = omega arith in
+      rw (passed_hit (texts s ps) h p o m k (sym e), g, j, y)

@@ -1,14 +1,14 @@
 -- Laws of prefixes, by going through both lists. Assumes nothing.
 use Prim.Native.Nat.{ℕ, ◌≤◌}
-use mathlib.Core.Path.{◌≡◌, refl, sym}
-use mathlib.Core.Bool.{true, false≢true}
+use mathlib.Core.Path.{◌≡◌, refl, ◌∙◌}
+use mathlib.Core.Bool.{Bool, true, false≢true}
 use mathlib.Core.List.{List, [], ◌∷◌}
 use native.Mathlib.Omega.{arith}
-use lib.Dec.{eqb, leb, leb-zero, leb-suc-zero, leb-suc-suc}
+use lib.Dec.{eqb}
 use lib.ListN.{length, take}
 use borrow.Author.Tests.{eqb-true, eq-eqb}
-use Rattle.strlib.proofs.Refusing.{bool_case, and_both}
-use Rattle.words.specs.Alike.{common}
+use Rattle.std.specs.Cmp.Lexicographic.{pointwise}
+use Rattle.strlib.proofs.Refusing.{and_both}
 use Rattle.search.specs.Search.{is_prefix}
 
 -- ---- a prefix is what stands at the front
@@ -33,16 +33,12 @@ prefix_length [] h e = omega arith
 prefix_length (x ∷ s) [] e = absurd (false≢true e)
 prefix_length (x ∷ s) (y ∷ h) e = omega (arith, prefix_length s h (and_both (eqb x y) (is_prefix s h) e).1)
 
--- ---- the test, by how far the two are alike
+-- ---- the library's test
 
-pub prefix_common : (s h : List ℕ) → is_prefix s h ≡ leb (length s) (common s h)
-unfolding common
-prefix_common [] h = sym (leb-zero 0)
-prefix_common (x ∷ s) [] = sym (leb-suc-zero (length s))
-prefix_common (x ∷ s) (y ∷ h) =
-    bool_case (eqb x y)
-    (λ e. rw (e, leb-suc-suc (length s) (common s h)) (prefix_common s h))
-    (λ e. rw (e, leb-suc-zero (length s)))
-
-pub prefix_is : (s h : List ℕ) (n : ℕ) → n ≡ common s h → leb (length s) n ≡ is_prefix s h
-prefix_is s h n e = rw e (sym (prefix_common s h))
+pub prefix_starts : (s h : List ℕ) (b : Bool) → b ≡ pointwise eqb s (take (length s) h) → b ≡ is_prefix s h
+prefix_starts s h b e = e ∙ go s h
+  where
+    go : (s h : List ℕ) → pointwise eqb s (take (length s) h) ≡ is_prefix s h
+    go [] h = refl
+    go (x ∷ s) [] = refl
+    go (x ∷ s) (y ∷ h) = rw (go s h)

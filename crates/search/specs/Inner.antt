@@ -1,21 +1,22 @@
--- What the functions inside the crate promise one another; `placed` also serves the table's run. Assumes nothing.
-use Rattle.std.specs.Prelude.{ℕ, zero, suc, ◌+◌, ◌≤◌}
-use Rattle.strlib.specs.Refusal.{Outcome, refused, gives}
+-- What the functions inside the crate promise one another; `placed` serves the table's run. Assumes nothing.
+use Rattle.std.specs.Prelude.{ℕ, zero, suc, ◌+◌, ◌≤◌, Option, Some, None}
 use Rattle.strlib.specs.declared.StrPtr.{StrPtr}
 use Rattle.search.specs.Search.{Result, nothing, found}
-use Rattle.search.specs.declared.find.Finding.{Finding}
-use Rattle.search.specs.declared.find.Finding.TheVariants.{Found, Nothing, Refused}
+use Rattle.search.specs.declared.find.Spot.{Spot}
 
--- a place as the code holds it, with number 0 for nothing
+-- a place by its three numbers, with number 0 for nothing
 unfoldable pub placed : ℕ → ℕ → ℕ → Result
 placed zero pos1 pos2 = nothing
 placed (suc j) pos1 pos2 = found (suc j) pos1 pos2
 
--- the result for each case of a finding
-abbrev pub finding_of : Finding → Outcome Result
-finding_of (Found p) = gives (found p.number p.pos1 p.pos2)
-finding_of Nothing = gives nothing
-finding_of (Refused n) = refused n
+-- the same as the code holds it where something is found
+abbrev pub spot : ℕ → ℕ → ℕ → Spot
+spot j pos1 pos2 = record { number = j; pos1 = pos1; pos2 = pos2 }
+
+-- a string's number from its index, 0 for none
+abbrev pub number_of : Option ℕ → ℕ
+number_of None = 0
+number_of (Some k) = suc k
 
 -- what the code asks before it makes pointers: two positions of the host in their order, in a room whose end a store
 -- may have

@@ -1,15 +1,11 @@
 -- What a search answers: 01, "Searching". Assumes nothing.
 use Rattle.std.specs.Prelude.{ℕ, ◌+◌, ◌-◌, Bool, List, [], ◌∷◌, leb, length, take}
 use Rattle.strlib.specs.Pointer.{part_of, store_fits, good_in, text_of, texts, all, readable}
-use Rattle.strlib.specs.Refusal.{Outcome, refused, gives, first, outcome, Sought, nowhere, at}
+use Rattle.strlib.specs.Refusal.{Outcome, first, outcome, Sought, nowhere, at}
 use Rattle.strlib.specs.declared.StrPtr.{StrPtr}
 use Rattle.search.specs.Search.{Result, nothing, found, plain_search}
 use Rattle.search.specs.declared.Match.{Match}
 use Rattle.search.specs.declared.Split.{Split}
-use Rattle.search.specs.declared.SearchAnswer.{SearchAnswer}
-use Rattle.search.specs.declared.SearchAnswer.TheVariants.{Found, Nothing, Refused}
-use Rattle.search.specs.declared.SplitAnswer.{SplitAnswer}
-use Rattle.search.specs.declared.SplitAnswer.TheVariants.{Found as SplitFound, Nothing as SplitNothing, Refused as SplitRefused}
 
 -- the store and the count; the host's pointer and the listed ones; the host's characters and those of the listed
 -- strings
@@ -65,15 +61,3 @@ match_after_rule s host list count = search_by (λ j pos1 pos2. split_of host j 
 -- before with match, and after: the host is cut where the match ends
 unfoldable pub before_match_rule : List ℕ → StrPtr → List StrPtr → ℕ → Outcome (Sought Split)
 before_match_rule s host list count = search_by (λ j pos1 pos2. split_of host j pos2) s host list count
-
--- the paper's value for each case of the answer
-abbrev pub search_answered : SearchAnswer → Outcome (Sought Match)
-search_answered (Found m) = gives (at m)
-search_answered Nothing = gives nowhere
-search_answered (Refused n) = refused n
-
--- and of the joined forms
-abbrev pub split_answered : SplitAnswer → Outcome (Sought Split)
-split_answered (SplitFound m) = gives (at m)
-split_answered SplitNothing = gives nowhere
-split_answered (SplitRefused n) = refused n

@@ -6,11 +6,11 @@ mod find;
 
 ghost use Rattle.std.specs.Prelude.{◌≡◌, ◌+◌, ◌≤◌};
 ghost use Rattle.strlib.specs.Pointer.{part_of};
+ghost use Rattle.strlib.specs.Refusal.{sought_answered};
 ghost use Rattle.search.specs.Inner.{Within};
-ghost use Rattle.search.specs.Rule.{parts_of, split_of, search_answered, split_answered, search_rule, match_after_rule, before_match_rule};
+ghost use Rattle.search.specs.Rule.{parts_of, split_of, search_rule, match_after_rule, before_match_rule};
 
-use find::Finding;
-use strlib::{StrList, StrPtr};
+use strlib::{Refusal, StrList, StrPtr};
 
 // String `number` of the list was found: what lies before it, the match, and what lies after it.
 #[derive(Clone, Copy)]
@@ -21,13 +21,6 @@ pub struct Match {
     pub after: StrPtr,
 }
 
-#[derive(Clone, Copy)]
-pub enum SearchAnswer {
-    Found(Match),
-    Nothing,
-    Refused(u8),
-}
-
 // The same with the host cut in two: before, and match with after; or before with match, and after.
 #[derive(Clone, Copy)]
 pub struct Split {
@@ -36,46 +29,36 @@ pub struct Split {
     pub back: StrPtr,
 }
 
-#[derive(Clone, Copy)]
-pub enum SplitAnswer {
-    Found(Split),
-    Nothing,
-    Refused(u8),
-}
-
-// The first `count` strings of the list are sought in the host.
-pub fn search(store: &[u8], host: StrPtr, list: StrList, count: usize) -> SearchAnswer
-    ensures { search_answered result ≡ search_rule store.now host list count }
+// The listed strings are sought in the host.
+pub fn search(store: &[u8], host: StrPtr, list: &StrList) -> Result<Option<Match>, Refusal>
+    ensures { sought_answered result ≡ search_rule store.now host list.now.items list.now.count }
 {
-    match find::find_listed(store, host, list, count) {
-        Finding::Found(place) => {
-            SearchAnswer::Found(parts_of(host, place.number, place.pos1, place.pos2))
-        }
-        Finding::Nothing => SearchAnswer::Nothing,
-        Finding::Refused(number) => SearchAnswer::Refused(number),
-    }
+    let found = find::find_listed(store, host, list)?;
+    Ok(found.map(|place| parts_of(host, place.number, place.pos1, place.pos2)))
 }
 
 // The same, giving before, and match with after.
-pub fn search_match_after(store: &[u8], host: StrPtr, list: StrList, count: usize) -> SplitAnswer
-    ensures { split_answered result ≡ match_after_rule store.now host list count }
+pub fn search_match_after(
+    store: &[u8],
+    host: StrPtr,
+    list: &StrList,
+) -> Result<Option<Split>, Refusal>
+    ensures { sought_answered result ≡ match_after_rule store.now host list.now.items list.now.count }
 {
-    match find::find_listed(store, host, list, count) {
-        Finding::Found(place) => SplitAnswer::Found(split_of(host, place.number, place.pos1)),
-        Finding::Nothing => SplitAnswer::Nothing,
-        Finding::Refused(number) => SplitAnswer::Refused(number),
-    }
+    let found = find::find_listed(store, host, list)?;
+    Ok(found.map(|place| split_of(host, place.number, place.pos1)))
 }
 
 // The same, giving before with match, and after.
-pub fn search_before_match(store: &[u8], host: StrPtr, list: StrList, count: usize) -> SplitAnswer
-    ensures { split_answered result ≡ before_match_rule store.now host list count }
+pub fn search_before_match(
+    store: &[u8],
+    host: StrPtr,
+    list: &StrList,
+) -> Result<Option<Split>, Refusal>
+    ensures { sought_answered result ≡ before_match_rule store.now host list.now.items list.now.count }
 {
-    match find::find_listed(store, host, list, count) {
-        Finding::Found(place) => SplitAnswer::Found(split_of(host, place.number, place.pos2)),
-        Finding::Nothing => SplitAnswer::Nothing,
-        Finding::Refused(number) => SplitAnswer::Refused(number),
-    }
+    let found = find::find_listed(store, host, list)?;
+    Ok(found.map(|place| split_of(host, place.number, place.pos2)))
 }
 
 // A part of the host, from `skip` behind its start.

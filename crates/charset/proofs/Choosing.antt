@@ -1,99 +1,77 @@
--- Laws of the two searches: forwards what is left is behind the characters passed, backwards in front of them. Assumes
+-- Laws of the two searches: what is found is the first, or the last, of the characters in a masked table. Assumes
 -- nothing.
-use Prim.Native.Nat.{ℕ, suc, ◌+◌, ◌-◌, ◌≤◌, ◌<◌}
+use Prim.Native.Nat.{ℕ, zero, suc, ◌+◌, ◌≤◌, ◌<◌}
 use mathlib.Core.Path.{◌≡◌, refl, sym, ap, ◌∙◌}
-use mathlib.Core.Bool.{Bool, true, false}
-use mathlib.Core.List.{List, [], ◌∷◌, ◌++◌}
-use native.Mathlib.Nat.{add-zero}
-use native.Mathlib.Numerals.{add-one}
+use mathlib.Core.Bool.{Bool, true, false, cond}
+use mathlib.Core.List.{List, [], ◌∷◌}
 use native.Mathlib.Omega.{arith}
-use lib.ListN.{length, take, drop, get_or, length-take, drop_of_length-le}
-use lib.Seq.{drop-cons, take-suc, take-length}
-use borrow.Author.Rules.{rules}
-use Rattle.strlib.specs.Refusal.{gives, Sought, nowhere, at}
-use Rattle.charset.specs.Inner.{Ready}
+use lib.ListN.{length, get_or}
+use Rattle.std.specs.Iterator.{Yields}
+use Rattle.std.specs.List.{push}
+use Rattle.std.proofs.Common.{Option, Some}
+use Rattle.strlib.specs.Refusal.{Sought, nowhere, at}
 use Rattle.charset.specs.Rule.{or_else, chosen, found_at, found_from}
 use Rattle.charset.specs.Sets.{in_tables}
 use Rattle.charset.specs.declared.CharAt.{CharAt}
-use Rattle.charset.proofs.Turning.{code_word}
 
--- a character in a masked table, and another
-module _ (block : List ℕ) (mask p x : ℕ) (b : Bool) (e : b ≡ in_tables block mask x) where
-  found_in : b ≡ true → found_at block mask p x ≡ at (record { position = p; code = x })
-  unfolding found_at
-  found_in t = rw (← e, t)
+module _ (block : List ℕ) (mask : ℕ) where
+  -- the test of the character at index i
+  abbrev In : List ℕ → ℕ → Bool
+  In xs i = in_tables block mask (get_or xs i 0)
 
-  found_out : b ≡ false → found_at block mask p x ≡ nowhere
-  unfolding found_at
-  found_out t = rw (← e, t)
+  -- the character at position p
+  abbrev char : ℕ → ℕ → Sought CharAt
+  char p x = at (record { position = p; code = x })
 
--- ---- forwards
+  step : (last : Bool) (p x : ℕ) (xs : List ℕ) (t : Bool) → in_tables block mask x ≡ t
+      → found_from last block mask p (x ∷ xs) ≡ chosen last (cond t (char p x) nowhere) (found_from last block mask (suc p) xs)
+  unfolding found_from found_at
+  step last p x xs t e = rw e
 
-module _ (block : List ℕ) (mask : ℕ) (h : List ℕ) (i : ℕ) (e : found_from false block mask 1 h ≡ found_from false block mask (i + 1) (drop i h)) where
-  pub first_none : length h ≤ i → gives nowhere ≡ gives (found_from false block mask 1 h)
-  unfolding found_from
-  first_none k = ap gives (sym (e ∙ rw (drop_of_length-le h k)))
+  pub none_in : (last : Bool) (p : ℕ) (xs : List ℕ) → ((k : ℕ) → k < length xs → In xs k ≡ false) → found_from last block mask p xs ≡ nowhere
+  unfolding found_from chosen or_else
+  none_in last p [] h = refl
+  none_in false p (x ∷ xs) h = step false p x xs false (h 0 (omega arith)) ∙ none_in false (suc p) xs (λ k l. h (suc k) (omega arith))
+  none_in true p (x ∷ xs) h =
+      step true p x xs false (h 0 (omega arith)) ∙ ap (λ r. or_else r nowhere) (none_in true (suc p) xs (λ k l. h (suc k) (omega arith)))
 
-  module _ (b : Bool) (q : b ≡ in_tables block mask (get_or h i 0)) (k : i < length h) where
-    pub first_hit : b ≡ true → gives (at (record { position = i + 1; code = get_or h i 0 })) ≡ gives (found_from false block mask 1 h)
-    unfolding found_from chosen or_else
-    first_hit t = ap gives (sym (e ∙ rw (drop-cons h i 0 k, found_in block mask (i + 1) (get_or h i 0) b q t)))
+  pub first_in : (p : ℕ) (xs : List ℕ) (i q : ℕ) → i + p ≡ q → i < length xs → In xs i ≡ true → ((k : ℕ) → k < i → In xs k ≡ false)
+      → char q (get_or xs i 0) ≡ found_from false block mask p xs
+  unfolding chosen or_else
+  first_in p [] i q e l t h = absurd (omega arith)
+  first_in p (x ∷ xs) zero q e l t h = let z : p ≡ q = omega arith in sym (step false p x xs true t ∙ ap (λ r. char r x) z)
+  first_in p (x ∷ xs) (suc i) q e l t h =
+      first_in (suc p) xs i q (omega arith) (omega arith) t (λ k m. h (suc k) (omega arith)) ∙ sym (step false p x xs false (h 0 (omega arith)))
 
-    pub first_on : b ≡ false → found_from false block mask 1 h ≡ found_from false block mask (i + 1 + 1) (drop (i + 1) h)
-    unfolding found_from chosen or_else
-    first_on t = e ∙ rw (drop-cons h i 0 k, found_out block mask (i + 1) (get_or h i 0) b q t, add-one (i + 1), add-one i)
+  pub last_in : (p : ℕ) (xs : List ℕ) (i q : ℕ) → i + p ≡ q → i < length xs → In xs i ≡ true → ((k : ℕ) → i + 1 ≤ k → k < length xs → In xs k ≡ false)
+      → char q (get_or xs i 0) ≡ found_from true block mask p xs
+  unfolding chosen or_else
+  last_in p [] i q e l t h = absurd (omega arith)
+  last_in p (x ∷ xs) zero q e l t h =
+      let z : p ≡ q = omega arith in
+      sym
+      (step true p x xs true t
+      ∙ ap (λ r. or_else r (char p x)) (none_in true (suc p) xs (λ k m. h (suc k) (omega arith) (omega arith)))
+      ∙ ap (λ r. char r x) z)
+  last_in p (x ∷ xs) (suc i) q e l t h =
+      sym
+      (step true p x xs (in_tables block mask x) refl
+      ∙ ap (λ r. or_else r (cond (in_tables block mask x) (char p x) nowhere)) (sym (last_in (suc p) xs i q (omega arith) (omega arith) t (λ k m n. h (suc k) (omega arith) (omega arith)))))
 
--- ---- backwards
+-- what a walk from the end of a list of small numbers comes to is small
+module _ {S A : Type 0} (steps : S → Option A → S → Type 0) (rest : S → List ℕ) (now : A → ℕ) (back : (s : S) (x : A) (t : S) → steps s (Some x) t → rest s ≡ push (rest t) (now x)) (n : ℕ) where
+  abbrev Small : List ℕ → Type 0
+  Small xs = (k : ℕ) → k < length xs → get_or xs k 0 < n
 
-or_nowhere : (a : Sought CharAt) → a ≡ or_else a nowhere
-unfolding or_else
-or_nowhere nowhere = refl
-or_nowhere (at x) = refl
+  front_small : (xs : List ℕ) (x : ℕ) → Small (push xs x) → Small xs
+  front_small [] x h k l = absurd (omega arith)
+  front_small (y ∷ ys) x h zero l = h 0 (omega arith)
+  front_small (y ∷ ys) x h (suc k) l = front_small ys x (λ j m. h (suc j) (omega arith)) k (omega arith)
 
-or_assoc : (a b c : Sought CharAt) → or_else (or_else a b) c ≡ or_else a (or_else b c)
-unfolding or_else
-or_assoc nowhere b c = refl
-or_assoc (at x) b c = refl
+  end_small : (xs : List ℕ) (x : ℕ) → Small (push xs x) → x < n
+  end_small [] x h = h 0 (omega arith)
+  end_small (y ∷ ys) x h = end_small ys x (λ j m. h (suc j) (omega arith))
 
--- a character behind the others comes first
-last_snoc : (block : List ℕ) (mask p : ℕ) (xs : List ℕ) (x : ℕ) → found_from true block mask p (xs ++ (x ∷ [])) ≡ or_else (found_at block mask (p + length xs) x) (found_from true block mask p xs)
-unfolding found_from chosen or_else
-last_snoc block mask p [] x = rw add-zero (or_nowhere (found_at block mask p x))
-last_snoc block mask p (y ∷ xs) x =
-    let n : suc p + length xs ≡ p + suc (length xs) = omega arith in
-    rw (last_snoc block mask (suc p) xs x, n) (or_assoc (found_at block mask (p + suc (length xs)) x) (found_from true block mask (suc p) xs) (found_at block mask p y))
-
-pub last_start : (block : List ℕ) (mask : ℕ) (h : List ℕ) → found_from true block mask 1 h ≡ found_from true block mask 1 (take (length h) h)
-last_start block mask h = rw take-length
-
-module _ (block : List ℕ) (mask : ℕ) (h : List ℕ) (n : ℕ) (e : found_from true block mask 1 h ≡ found_from true block mask 1 (take n h)) where
-  pub last_none : n ≤ 0 → gives nowhere ≡ gives (found_from true block mask 1 h)
-  unfolding found_from
-  last_none k = let z : n ≡ 0 = omega arith in ap gives (sym (e ∙ rw z))
-
-  module _ (b : Bool) (q : b ≡ in_tables block mask (get_or h (n - 1) 0)) (k : 0 < n) (l : n ≤ length h) where
-    split : found_from true block mask 1 h ≡ or_else (found_at block mask n (get_or h (n - 1) 0)) (found_from true block mask 1 (take (n - 1) h))
-    split =
-        let s : n ≡ suc (n - 1) = omega arith in
-        let m : 1 + length (take (n - 1) h) ≡ n = simp length-take (omega arith) in
-        e
-        ∙ ap (λ (j : ℕ). found_from true block mask 1 (take j h)) s
-        ∙ ap (found_from true block mask 1) (take-suc h (n - 1) 0 (omega arith))
-        ∙ last_snoc block mask 1 (take (n - 1) h) (get_or h (n - 1) 0)
-        ∙ ap (λ (j : ℕ). or_else (found_at block mask j (get_or h (n - 1) 0)) (found_from true block mask 1 (take (n - 1) h))) m
-
-    pub last_hit : b ≡ true → gives (at (record { position = n; code = get_or h (n - 1) 0 })) ≡ gives (found_from true block mask 1 h)
-    unfolding or_else
-    last_hit t = ap gives (sym (split ∙ rw (found_in block mask n (get_or h (n - 1) 0) b q t)))
-
-    pub last_on : b ≡ false → found_from true block mask 1 h ≡ found_from true block mask 1 (take (n - 1) h)
-    unfolding or_else
-    last_on t = split ∙ rw (found_out block mask n (get_or h (n - 1) 0) b q t)
-
--- the word of the character in front of position n
-pub last_word : (text block : List ℕ) → Ready text block → (n : ℕ) → 0 < n → n ≤ length text → get_or text (n - 1) 0 < length block
-last_word text block r n k l = code_word text block r (n - 1) (omega arith) block r.words
-
-pub ruleset first_laws = (rules, code_word, first_none, first_hit, first_on)
-
-pub ruleset last_laws = (rules, last_word, last_start, last_none, last_hit, last_on)
+  pub back_small : (s : S) → Small (rest s) → (xs : List A) (t : S) → Yields steps s xs t → (x : A) (u : S) → steps t (Some x) u → now x < n
+  back_small s h [] t y x u g = end_small (rest u) (now x) (rw (← (back t x u g)) (rw y at h))
+  back_small s h (z ∷ zs) t y x u g = back_small y.0 (front_small (rest y.0) (now z) (rw (back s z y.0 y.1) at h)) zs t y.2 x u g

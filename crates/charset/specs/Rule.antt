@@ -1,14 +1,10 @@
 -- The calls on character sets: 01, "Character sets". Assumes nothing.
 use Rattle.std.specs.Prelude.{ℕ, suc, Bool, true, false, cond, List, [], ◌∷◌, ◌++◌, length}
 use Rattle.strlib.specs.Pointer.{store_fits, good_in, text_of, readable}
-use Rattle.strlib.specs.Refusal.{Outcome, refused, gives, first, outcome, ruled, Sought, nowhere, at}
+use Rattle.strlib.specs.Refusal.{Outcome, first, outcome, ruled, Sought, nowhere, at}
 use Rattle.strlib.specs.declared.StrPtr.{StrPtr}
 use Rattle.charset.specs.Sets.{block_fits, mask_fits, turned_all, turned_at, in_tables}
-use Rattle.charset.specs.declared.SetAnswer.{SetAnswer}
-use Rattle.charset.specs.declared.SetAnswer.TheVariants.{Done, Refused}
 use Rattle.charset.specs.declared.CharAt.{CharAt}
-use Rattle.charset.specs.declared.CharAnswer.{CharAnswer}
-use Rattle.charset.specs.declared.CharAnswer.TheVariants.{Found, Nothing, Refused as CharRefused}
 
 -- ---- clear (false) and fill (true)
 
@@ -39,11 +35,6 @@ set_refusal s string block mask = first (set_checks s string block mask)
 unfoldable pub characters_rule : Bool → List ℕ → StrPtr → List ℕ → ℕ → Outcome Unit × List ℕ
 characters_rule on s string block mask = ruled (set_refusal s string block mask) tt (turned_at on mask (text_of s string) block) block
 
--- the paper's value for each case of a writer's answer
-abbrev pub set_answered : SetAnswer → Outcome Unit
-set_answered Done = gives tt
-set_answered (Refused n) = refused n
-
 -- ---- search for the first (false) or the last (true) host character in a masked table
 
 -- of two answers the first that found something
@@ -68,9 +59,3 @@ found_from last block mask p (x ∷ xs) = chosen last (found_at block mask p x) 
 -- the same checks, of the host
 unfoldable pub find_rule : Bool → List ℕ → StrPtr → List ℕ → ℕ → Outcome (Sought CharAt)
 find_rule last s host block mask = outcome (set_refusal s host block mask) (found_from last block mask 1 (text_of s host))
-
--- the paper's value for each case of a search's answer
-abbrev pub char_answered : CharAnswer → Outcome (Sought CharAt)
-char_answered (Found c) = gives (at c)
-char_answered Nothing = gives nowhere
-char_answered (CharRefused n) = refused n

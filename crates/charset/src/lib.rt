@@ -6,17 +6,12 @@ mod find;
 mod tables;
 
 ghost use Rattle.std.specs.Prelude.{◌≡◌};
+ghost use Rattle.strlib.specs.Refusal.{number_found};
 ghost use Rattle.charset.specs.Rule.{set_refusal};
 
 pub use find::{find_first, find_last};
-use strlib::StrPtr;
+use strlib::{Refusal, StrPtr};
 pub use tables::{add_characters, clear_tables, fill_tables, remove_characters};
-
-#[derive(Clone, Copy)]
-pub enum SetAnswer {
-    Done,
-    Refused(u8),
-}
 
 // A host character: its position, counted from 1, and its code.
 #[derive(Clone, Copy)]
@@ -25,19 +20,12 @@ pub struct CharAt {
     pub code: u8,
 }
 
-#[derive(Clone, Copy)]
-pub enum CharAnswer {
-    Found(CharAt),
-    Nothing,
-    Refused(u8),
-}
-
-fn set_refusal(store: &[u8], string: StrPtr, block: &[u64], mask: u64) -> u8
-    ensures { result ≡ set_refusal store.now string block.now mask }
+// The checks of a call on a string.
+fn check_set(store: &[u8], string: StrPtr, block: &[u64], mask: u64) -> Result<(), Refusal>
+    ensures { number_found result ≡ set_refusal store.now string block.now mask }
 {
-    let found = strlib::check_store(store);
-    let found = strlib::check(found, 3, block.len() == StrPtr::BLOCK_WORDS);
-    let found = strlib::check(found, 3, mask < StrPtr::MASK_END);
-    let found = strlib::check_good(found, store.len(), string);
-    strlib::check_readable(found, store, string)
+    strlib::check_store(store)?;
+    tables::check_block(block, mask)?;
+    strlib::check_good(store.len(), string)?;
+    strlib::check_readable(store, string)
 }

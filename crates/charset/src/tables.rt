@@ -1,37 +1,47 @@
 // What is written into a block: masked bits are turned on, or off, in every word or in the words of a string's
 // characters.
 ghost use Rattle.std.specs.Prelude.{◌≡◌, true, false};
+ghost use Rattle.strlib.specs.Refusal.{number_found, answered};
 ghost use Rattle.charset.specs.Inner.{Ready};
-ghost use Rattle.charset.specs.Rule.{block_refusal, tables_rule, characters_rule, set_answered};
+ghost use Rattle.charset.specs.Rule.{block_refusal, tables_rule, characters_rule};
 ghost use Rattle.charset.specs.Sets.{turned, turned_all, turned_at};
 
-use super::SetAnswer;
-use strlib::StrPtr;
+use strlib::{Refusal, StrPtr};
 
 // No character is in a masked table afterwards.
-pub fn clear_tables(block: &mut [u64], mask: u64) -> SetAnswer
-    ensures { (set_answered result, block.new) ≡ tables_rule false block.old mask }
+pub fn clear_tables(block: &mut [u64], mask: u64) -> Result<(), Refusal>
+    ensures { (answered result, block.new) ≡ tables_rule false block.old mask }
 {
     turn_tables(false, block, mask)
 }
 
 // Every character is in each masked table afterwards.
-pub fn fill_tables(block: &mut [u64], mask: u64) -> SetAnswer
-    ensures { (set_answered result, block.new) ≡ tables_rule true block.old mask }
+pub fn fill_tables(block: &mut [u64], mask: u64) -> Result<(), Refusal>
+    ensures { (answered result, block.new) ≡ tables_rule true block.old mask }
 {
     turn_tables(true, block, mask)
 }
 
 // The characters of a string are put into each masked table.
-pub fn add_characters(store: &[u8], string: StrPtr, block: &mut [u64], mask: u64) -> SetAnswer
-    ensures { (set_answered result, block.new) ≡ characters_rule true store.now string block.old mask }
+pub fn add_characters(
+    store: &[u8],
+    string: StrPtr,
+    block: &mut [u64],
+    mask: u64,
+) -> Result<(), Refusal>
+    ensures { (answered result, block.new) ≡ characters_rule true store.now string block.old mask }
 {
     turn_characters(true, store, string, block, mask)
 }
 
 // The characters of a string are taken out of each masked table.
-pub fn remove_characters(store: &[u8], string: StrPtr, block: &mut [u64], mask: u64) -> SetAnswer
-    ensures { (set_answered result, block.new) ≡ characters_rule false store.now string block.old mask }
+pub fn remove_characters(
+    store: &[u8],
+    string: StrPtr,
+    block: &mut [u64],
+    mask: u64,
+) -> Result<(), Refusal>
+    ensures { (answered result, block.new) ≡ characters_rule false store.now string block.old mask }
 {
     turn_characters(false, store, string, block, mask)
 }
@@ -45,10 +55,8 @@ fn turn(on: bool, mask: u64, word: u64) -> u64
 fn turn_all(on: bool, mask: u64, block: &mut [u64])
     ensures { block.new ≡ turned_all on mask block.old }
 {
-    let mut i = 0;
-    while i < block.len() {
-        block[i] = turn(on, mask, block[i]);
-        i += 1;
+    for word in block.iter_mut() {
+        *word = turn(on, mask, *word);
     }
 }
 
@@ -56,30 +64,25 @@ fn turn_at(on: bool, mask: u64, text: &[u8], block: &mut [u64])
     requires { Ready text.now block.old }
     ensures { block.new ≡ turned_at on mask text.now block.old }
 {
-    let mut i = 0;
-    while i < text.len() {
-        let x = text[i] as usize;
-        block[x] = turn(on, mask, block[x]);
-        i += 1;
+    for x in text {
+        let i = *x as usize;
+        block[i] = turn(on, mask, block[i]);
     }
 }
 
-fn block_refusal(block: &[u64], mask: u64) -> u8
-    ensures { result ≡ block_refusal block.now mask }
+pub fn check_block(block: &[u64], mask: u64) -> Result<(), Refusal>
+    ensures { number_found result ≡ block_refusal block.now mask }
 {
-    let found = strlib::check(0, 3, block.len() == StrPtr::BLOCK_WORDS);
-    strlib::check(found, 3, mask < StrPtr::MASK_END)
+    strlib::check(block.len() == StrPtr::BLOCK_WORDS, Refusal::Range)?;
+    strlib::check(mask < StrPtr::MASK_END, Refusal::Range)
 }
 
-fn turn_tables(on: bool, block: &mut [u64], mask: u64) -> SetAnswer
-    ensures { (set_answered result, block.new) ≡ tables_rule on block.old mask }
+fn turn_tables(on: bool, block: &mut [u64], mask: u64) -> Result<(), Refusal>
+    ensures { (answered result, block.new) ≡ tables_rule on block.old mask }
 {
-    let found = block_refusal(block, mask);
-    if found != 0 {
-        return SetAnswer::Refused(found);
-    }
+    check_block(block, mask)?;
     turn_all(on, mask, block);
-    SetAnswer::Done
+    Ok(())
 }
 
 fn turn_characters(
@@ -88,13 +91,10 @@ fn turn_characters(
     string: StrPtr,
     block: &mut [u64],
     mask: u64,
-) -> SetAnswer
-    ensures { (set_answered result, block.new) ≡ characters_rule on store.now string block.old mask }
+) -> Result<(), Refusal>
+    ensures { (answered result, block.new) ≡ characters_rule on store.now string block.old mask }
 {
-    let found = super::set_refusal(store, string, block, mask);
-    if found != 0 {
-        return SetAnswer::Refused(found);
-    }
+    super::check_set(store, string, block, mask)?;
     turn_at(on, mask, strlib::text(store, string), block);
-    SetAnswer::Done
+    Ok(())
 }

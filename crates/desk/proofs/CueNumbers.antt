@@ -11,14 +11,11 @@ use lib.Signed.{mag, le_z, lt_z, non_neg}
 use mir.Facts.{to_z-of_z}
 use mir.Syntax.{w64}
 use mir.Val.{Fits, SFits, to_z, of_z}
-use Rattle.number.specs.Number.{number_answered}
-use Rattle.number.specs.declared.NumberAnswer.{NumberAnswer}
-use Rattle.number.specs.declared.NumberAnswer.TheVariants.{Given as Number, Refused as NoNumber}
 use Rattle.strlib.proofs.Refusing.{and_both, outcome_no, outcome_yes}
-use Rattle.strlib.specs.Refusal.{Outcome, gives, first}
+use Rattle.strlib.specs.Refusal.{refused, gives, first}
 use Rattle.desk.specs.declared.cue.Cue.{Cue}
 use Rattle.desk.specs.Cue.{is_index, is_gain, matrix_checks, cue_of}
-use Rattle.desk.specs.CueInner.{refused_word, index_of, wordless, in_matrix, in_order}
+use Rattle.desk.specs.CueInner.{index_of, in_matrix}
 
 -- ---- an index
 
@@ -84,21 +81,19 @@ module _ (mics lsps : ℕ) (n n' m m' g g' : ℤ) (i j : ℕ) (a b c : Bool) (en
   tests : c ≡ ((is_index mics n && is_index lsps m) && is_gain g)
   tests = ec ∙ rw (ea, eb, ei, ej, en, em, eg, index_is mics n, index_is lsps m)
 
-  pub matrix_in : c ≡ true → wordless (gives (record { microphone = i; loudspeaker = j; gain = g' })) ≡ wordless (in_matrix mics lsps n m g)
+  pub matrix_in : c ≡ true → gives (record { microphone = i; loudspeaker = j; gain = g' }) ≡ in_matrix mics lsps n m g
   unfolding in_matrix cue_of
   matrix_in t =
       let p = and_both (is_index mics n && is_index lsps m) (is_gain g) (sym tests ∙ t) in
       let q = and_both (is_index mics n) (is_index lsps m) p.0 in
       let x : i ≡ nat_abs n = ei ∙ rw en (index_value mics n q.0) in
       let y : j ≡ nat_abs m = ej ∙ rw em (index_value lsps m q.1) in
-      ap wordless (outcome_yes 0 (first (matrix_checks mics lsps n m g)) (rw (q.0, q.1, p.1)) _ (cue_of n m g) refl (rw (x, y, eg)))
+      outcome_yes 0 (first (matrix_checks mics lsps n m g)) (rw (q.0, q.1, p.1)) _ (cue_of n m g) refl (rw (x, y, eg))
 
-  pub matrix_out : (r : Outcome Cue × ℕ) → c ≡ false → r ≡ refused_word 12 0 → r ≡ wordless (in_matrix mics lsps n m g)
+  pub matrix_out : c ≡ false → refused 12 ≡ in_matrix mics lsps n m g
   unfolding in_matrix
-  matrix_out r t f =
-      f
-      ∙ ap wordless
-      (outcome_no 12 (first (matrix_checks mics lsps n m g)) (go (is_index mics n) (is_index lsps m) (is_gain g) (sym tests ∙ t)) (cue_of n m g) (λ (z : ◌≡◌ {A = ℕ} 12 0). omega arith))
+  matrix_out t =
+      outcome_no 12 (first (matrix_checks mics lsps n m g)) (go (is_index mics n) (is_index lsps m) (is_gain g) (sym tests ∙ t)) (cue_of n m g) (λ (z : ◌≡◌ {A = ℕ} 12 0). omega arith)
     where
       go : (x y z : Bool) → ((x && y) && z) ≡ false → ◌≡◌ {A = ℕ} 12 (cond x (cond y (cond z 0 12) 12) 12)
       go true true true e = absurd (true≢false e)
@@ -107,27 +102,3 @@ module _ (mics lsps : ℕ) (n n' m m' g g' : ℤ) (i j : ℕ) (a b c : Bool) (en
       go false y z e = refl
 
 pub ruleset matrix_laws = (rules, matrix_in, matrix_out)
-
--- ---- the numbers from left to right
-
-module _ (mics lsps : ℕ) (n m g : NumberAnswer) where
-  abbrev whole : Outcome Cue
-  whole = in_order mics lsps (number_answered n) (number_answered m) (number_answered g)
-
-  pub first_bad : (r : Outcome Cue × ℕ) (k : ℕ) → n ≡ NoNumber k → r ≡ refused_word k 0 → r ≡ wordless whole
-  unfolding in_order
-  first_bad r k e q = rw e q
-
-  pub second_bad : (r : Outcome Cue × ℕ) (k : ℕ) (x : ℤ) → n ≡ Number x → m ≡ NoNumber k → r ≡ refused_word k 0 → r ≡ wordless whole
-  unfolding in_order
-  second_bad r k x e f q = rw (e, f) q
-
-  pub third_bad : (r : Outcome Cue × ℕ) (k : ℕ) (x y : ℤ) → n ≡ Number x → m ≡ Number y → g ≡ NoNumber k → r ≡ refused_word k 0 → r ≡ wordless whole
-  unfolding in_order
-  third_bad r k x y e f h q = rw (e, f, h) q
-
-  pub none_bad : (r : Outcome Cue × ℕ) (x y z : ℤ) → n ≡ Number x → m ≡ Number y → g ≡ Number z → r ≡ wordless (in_matrix mics lsps x y z) → r ≡ wordless whole
-  unfolding in_order
-  none_bad r x y z e f h q = rw (e, f, h) q
-
-pub ruleset order_laws = (rules, first_bad, second_bad, third_bad, none_bad)

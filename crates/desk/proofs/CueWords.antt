@@ -84,20 +84,23 @@ module _ (s : List ℕ) where
             let u : n ≤ 0 = ltb-false 0 n (q ∙ p) in
             eq-eqb n 0 (omega arith) ∙ sym (le-leb (length (words s)) 7 (ltb-false 7 (length (words s)) p))
 
-    pub wrong_by : (d₁ d₂ d₃ d₄ d₅ d₆ d₇ d₈ : StrPtr) (a b c d : Bool) (f₁ f₂ f₃ f₄ f₅ f₆ f₇ r : ℕ)
-        → a ≡ same (text_of s (get_or l 0 d₁)) (bytes "MIC") → f₁ ≡ also 0 1 a → f₂ ≡ also f₁ 2 (leb 1 (get_or l 1 d₂).length)
-        → b ≡ same (text_of s (get_or l 2 d₃)) (bytes "TO") → f₃ ≡ also f₂ 3 b
-        → c ≡ same (text_of s (get_or l 3 d₄)) (bytes "LSP") → f₄ ≡ also f₃ 4 c → f₅ ≡ also f₄ 5 (leb 1 (get_or l 4 d₅).length)
-        → d ≡ same (text_of s (get_or l 5 d₆)) (bytes "GAIN") → f₆ ≡ also f₅ 6 d → f₇ ≡ also f₆ 7 (leb 1 (get_or l 6 d₇).length)
-        → r ≡ also f₇ 8 (eqb (get_or l 7 d₈).length 0) → r ≡ wrong_word s
-    unfolding wrong_word
-    wrong_by d₁ d₂ d₃ d₄ d₅ d₆ d₇ d₈ a b c d f₁ f₂ f₃ f₄ f₅ f₆ f₇ r ea e₁ e₂ eb e₃ ec e₄ e₅ ed e₆ e₇ er =
-        let ta : a ≡ same (get_or (words s) 0 []) (bytes "MIC") = ea ∙ rw (text_is 0 (omega arith) d₁) in
-        let tb : b ≡ same (get_or (words s) 2 []) (bytes "TO") = eb ∙ rw (text_is 2 (omega arith) d₃) in
-        let tc : c ≡ same (get_or (words s) 3 []) (bytes "LSP") = ec ∙ rw (text_is 3 (omega arith) d₄) in
-        let td : d ≡ same (get_or (words s) 5 []) (bytes "GAIN") = ed ∙ rw (text_is 5 (omega arith) d₆) in
-        first_is (formed_checks s) refl r
-        (er ∙ rw (e₇, e₆, e₅, e₄, e₃, e₂, e₁, none_is d₈, there_is 6 (omega arith) d₇, there_is 4 (omega arith) d₅, there_is 1 (omega arith) d₂, ta, tb, tc, td))
+    -- the code's tests are the rule's
+    pub fixed_is : (k : ℕ) → k < 8 → (d : StrPtr) (y : List ℕ) (t : Bool) → t ≡ same (text_of s (get_or l k d)) y → t ≡ same (get_or (words s) k []) y
+    fixed_is k h d y t q = q ∙ rw (text_is k h d)
+
+-- one test, and those behind it
+pub word_here : (f : CueFault) (t b : Bool) (n k : ℕ) → fault f ≡ cond t (0, 0) (11, suc n) → t ≡ b → fault f ≡ formless (cond b k (suc n))
+word_here f true b n k e q = absurd (refusal_some f.refusal (ap (λ (x : ℕ × ℕ). x.0) e))
+word_here f false b n k e q = rw (← q) e
+
+pub word_next : (t b : Bool) (n k : ℕ) (x : ℕ × ℕ) → ◌≡◌ {A = ℕ × ℕ} (0, 0) (cond t (0, 0) (11, suc n)) → t ≡ b → x ≡ formless k → x ≡ formless (cond b k (suc n))
+word_next true b n k x e q r = rw (← q) r
+word_next false b n k x e q r = let z : ◌≡◌ {A = ℕ} 0 11 = ap (λ (x : ℕ × ℕ). x.0) e in absurd (omega arith)
+
+-- the last test
+pub word_last : (r : Result Unit CueFault) (t b : Bool) (n : ℕ) → fault_found r ≡ cond t (0, 0) (11, suc n) → t ≡ b → fault_found r ≡ formless (cond b 0 (suc n))
+word_last r true b n e q = rw (← q) e
+word_last r false b n e q = rw (← q) e
 
 pub word_same : (s : List ℕ) (p : StrPtr) (t y : List ℕ) (b : Bool) → t ≡ text_of s p → b ≡ same t y → b ≡ same (text_of s p) y
 word_same s p t y b e f = rw (← e) f

@@ -1,26 +1,25 @@
 -- Cue lines: 01, "Cue lines and labels", and the word that comes with 11: 02, W2. `MIC n TO LSP m GAIN g` is seven
 -- words; the line is its own store. Assumes nothing.
-use Rattle.std.specs.Prelude.{ℕ, ◌-◌, ◌≤◌, ◌≡◌, Bool, true, cond, ◌&&◌, List, [], ◌∷◌, ◌++◌, eqb, leb, ℤ, pos, negsuc, nat_abs, length, get_or}
+use Rattle.std.specs.Prelude.{ℕ, ◌-◌, ◌≤◌, ◌≡◌, Bool, true, cond, ◌&&◌, List, [], ◌∷◌, ◌++◌, eqb, leb, ℤ, pos, negsuc, nat_abs, length, get_or, Result, Ok, Err}
 use Rattle.std.specs.Int.Signed.{le_z}
 use Rattle.number.specs.Number.{of_text}
 use Rattle.number.specs.Text.{number_of}
 use Rattle.strlib.specs.Pointer.{store_fits, characters}
 use Rattle.strlib.specs.Quoted.{bytes}
-use Rattle.strlib.specs.Refusal.{Outcome, refused, gives, first, outcome}
+use Rattle.strlib.specs.Refusal.{Outcome, refused, gives, first, outcome, refusal_number}
 use Rattle.words.specs.Words.{words, same}
 use Rattle.desk.specs.declared.cue.Cue.{Cue}
-use Rattle.desk.specs.declared.cue.CueAnswer.{CueAnswer}
-use Rattle.desk.specs.declared.cue.CueAnswer.TheVariants.{Cue as Given, Refused}
+use Rattle.desk.specs.declared.cue.CueFault.{CueFault}
 
 -- the paper's value for each case of the answer
-abbrev pub cue_answered : CueAnswer → Outcome Cue
-cue_answered (Given c) = gives c
-cue_answered (Refused f) = refused f.refusal
+abbrev pub cue_answered : Result Cue CueFault → Outcome Cue
+cue_answered (Ok c) = gives c
+cue_answered (Err f) = refused (refusal_number f.refusal)
 
 -- the word number that comes with it
-abbrev pub word_of : CueAnswer → ℕ
-word_of (Given c) = 0
-word_of (Refused f) = f.word
+abbrev pub word_of : Result Cue CueFault → ℕ
+word_of (Ok c) = 0
+word_of (Err f) = f.word
 
 -- word k of a line, counted from 1; the empty text where there is none
 abbrev pub word : List ℕ → ℕ → List ℕ

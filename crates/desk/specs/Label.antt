@@ -1,30 +1,21 @@
 -- The label list: 01, "Cue lines and labels", second paragraph, and 02, W2: every refusal comes with an offset. Its
 -- records, what they are refused with, and the faulty record's place are `records`'. Assumes nothing.
-use Rattle.std.specs.Prelude.{ℕ, zero, suc, ◌+◌, ◌-◌, cond, List, leb, length, take}
+use Rattle.std.specs.Prelude.{ℕ, zero, suc, ◌+◌, ◌-◌, cond, List, leb, length, take, Option, Some, None, Result, Ok, Err}
 use Rattle.strlib.specs.Pointer.{pointer}
-use Rattle.strlib.specs.Refusal.{Sought, nowhere, at}
+use Rattle.strlib.specs.Refusal.{Sought, nowhere, at, refusal_number}
 use Rattle.strlib.specs.Store.{put}
 use Rattle.strlib.specs.declared.StrPtr.{StrPtr}
 use Rattle.cutting.specs.Cutting.{trimmed_length}
 use Rattle.records.specs.Record.{head_size, record_size, name_in, place_of, record_at, records, record_of, earlier, list_refusal, fault_offset}
 use Rattle.records.specs.Record.{key_refusal, new_refusal, label_bytes}
 use Rattle.records.specs.Told.{Told, refused_at, tells, told, ruled_at}
-use Rattle.desk.specs.declared.label.read.LabelCount.{LabelCount}
-use Rattle.desk.specs.declared.label.read.LabelCount.TheVariants.{Records, Refused as Uncounted}
+use Rattle.records.specs.declared.Fault.{Fault}
 use Rattle.desk.specs.declared.label.find.LabelPlace.{LabelPlace}
-use Rattle.desk.specs.declared.label.find.LabelPlace.TheVariants.{Found, Missing, Refused as Unplaced}
-use Rattle.desk.specs.declared.label.add.LabelAdded.{LabelAdded}
-use Rattle.desk.specs.declared.label.add.LabelAdded.TheVariants.{Added, Refused as Unadded}
 
 -- ---- the reader
 
 unfoldable pub read_labels_rule : List ℕ → Told ℕ
 read_labels_rule l = told (list_refusal l) (fault_offset l) (records l)
-
--- the paper's value for each case of the answer
-abbrev pub label_counted : LabelCount → Told ℕ
-label_counted (Records n) = tells n
-label_counted (Uncounted f) = refused_at f.refusal f.offset
 
 -- ---- the lookup
 
@@ -38,10 +29,14 @@ unfoldable pub find_label_rule : List ℕ → ℕ → ℕ → Told (Sought (ℕ 
 find_label_rule l kind number =
     told (earlier (list_refusal l) (key_refusal kind number)) (fault_offset l) (name_of l (record_of l kind number (records l)))
 
-abbrev pub label_placed : LabelPlace → Told (Sought (ℕ × ℕ))
-label_placed (Found place n) = tells (at (place, n))
-label_placed Missing = tells nowhere
-label_placed (Unplaced f) = refused_at f.refusal f.offset
+-- the paper's value of a place, and of the answer
+abbrev pub place_sought : Option LabelPlace → Sought (ℕ × ℕ)
+place_sought (Some p) = at (p.place, p.length)
+place_sought None = nowhere
+
+abbrev pub label_placed : Result (Option LabelPlace) Fault → Told (Sought (ℕ × ℕ))
+label_placed (Ok p) = tells (place_sought p)
+label_placed (Err f) = refused_at (refusal_number f.refusal) f.offset
 
 -- the part that the read-only form cuts, as a string that fills its room: the empty part at the list's front on a
 -- refusal or no record
@@ -64,7 +59,3 @@ add_offset b n = cond (leb n (length b)) (fault_offset (take n b)) n
 unfoldable pub add_rule : List ℕ → ℕ → ℕ → ℕ → List ℕ → Told ℕ × List ℕ
 add_rule b n kind number name =
     ruled_at (add_refusal b n kind number name) (add_offset b n) (n + record_size kind) (put b n (label_bytes kind number name)) b
-
-abbrev pub label_added : LabelAdded → Told ℕ
-label_added (Added n) = tells n
-label_added (Unadded f) = refused_at f.refusal f.offset

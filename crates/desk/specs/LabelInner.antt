@@ -1,7 +1,7 @@
 -- What the functions of the label list ask of and promise one another. Assumes nothing.
 use Rattle.std.specs.Prelude.{ℕ, ◌+◌, ◌*◌, ◌≤◌, List}
 use Rattle.records.specs.Record.{records}
-use Rattle.records.specs.declared.Fault.{Fault}
+use Rattle.records.specs.Told.{Told, told}
 use Rattle.desk.specs.Label.{add_refusal, add_offset}
 
 -- where a kind and number are marked as met: a kind has marks for the numbers 0 to 128
@@ -17,6 +17,6 @@ pub record Markable (kind number : ℕ) : Type 0 where
 pub record Counted (l : List ℕ) (k : ℕ) : Type 0 where
   pub most : k ≤ records l
 
--- what the writer finds before it writes, with 0 for nothing
-unfoldable pub add_fault : List ℕ → ℕ → ℕ → ℕ → List ℕ → Fault
-add_fault b n kind number name = record { refusal = add_refusal b n kind number name; offset = add_offset b n }
+-- what the writer finds before it writes
+unfoldable pub add_told : List ℕ → ℕ → ℕ → ℕ → List ℕ → Told Unit
+add_told b n kind number name = told (add_refusal b n kind number name) (add_offset b n) tt

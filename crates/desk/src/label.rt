@@ -3,6 +3,6 @@ mod add;
 mod find;
 mod read;
 
-pub use add::{LabelAdded, add_label};
+pub use add::add_label;
 pub use find::{LabelPlace, find_label, label_name};
-pub use read::{LabelCount, read_labels};
+pub use read::read_labels;

@@ -4,7 +4,5 @@
 mod cue;
 mod label;
 
-pub use cue::{Cue, CueAnswer, CueFault, read_cue};
-pub use label::{
-    LabelAdded, LabelCount, LabelPlace, add_label, find_label, label_name, read_labels,
-};
+pub use cue::{Cue, CueFault, read_cue};
+pub use label::{LabelPlace, add_label, find_label, label_name, read_labels};

@@ -1,9 +1,10 @@
 // The record at the front of some bytes, `rest`, which may be short.
 ghost use Rattle.std.specs.Prelude.{◌≡◌, ◌+◌, ◌*◌, get_or};
+ghost use Rattle.strlib.specs.Refusal.{number_found};
 ghost use Rattle.records.specs.Record.{kind_of, number_in, name_in, is_record, body_refusal};
 
 use super::kinds;
-use strlib::StrPtr;
+use strlib::{Refusal, StrPtr};
 
 fn byte_at(bytes: &[u8], i: usize) -> u8
     ensures { result ≡ get_or bytes.now i 0 }
@@ -43,13 +44,13 @@ pub fn is_record(rest: &[u8], kind: usize, number: usize) -> bool
     strlib::both(kind_of(rest) == kind, number_of(rest) == number)
 }
 
-// What the record is refused with by itself, before it is known to be repeated, 0 for nothing.
-pub fn body_refusal(rest: &[u8]) -> u8
-    ensures { result ≡ body_refusal rest.now }
+// The checks of the record by itself, before it is known to be repeated.
+pub fn check_body(rest: &[u8]) -> Result<(), Refusal>
+    ensures { number_found result ≡ body_refusal rest.now }
 {
     let kind = kind_of(rest);
-    let found = strlib::check(0, 11, 1 <= kinds::limit_of(kind));
-    let found = strlib::check(found, 13, kinds::size_of(kind) <= rest.len());
-    let found = strlib::check(found, 12, kinds::is_number_of(kind, number_of(rest)));
-    strlib::check(found, 2, kinds::is_name(name_in(rest)))
+    strlib::check(1 <= kinds::limit_of(kind), Refusal::Form)?;
+    strlib::check(kinds::size_of(kind) <= rest.len(), Refusal::Short)?;
+    strlib::check(kinds::is_number_of(kind, number_of(rest)), Refusal::Matrix)?;
+    strlib::check(kinds::is_name(name_in(rest)), Refusal::Character)
 }

@@ -1,6 +1,9 @@
 // Kinds and their limits, and what a kind, a number and a name have to be.
 ghost use Rattle.std.specs.Prelude.{◌≡◌};
+ghost use Rattle.strlib.specs.Refusal.{number_found};
 ghost use Rattle.records.specs.Record.{width_of, record_size, limit_of, is_number_of, is_name, key_refusal};
+
+use strlib::Refusal;
 
 // The largest matrix.
 pub const MICROPHONES_MAX: usize = 64;
@@ -17,13 +20,11 @@ pub const NAME: usize = 16;
 pub fn limit_of(kind: usize) -> usize
     ensures { result ≡ limit_of kind }
 {
-    if kind == 1 {
-        return MICROPHONES_MAX;
+    match kind {
+        1 => MICROPHONES_MAX,
+        2 => LOUDSPEAKERS_MAX,
+        _ => 0,
     }
-    if kind == 2 {
-        return LOUDSPEAKERS_MAX;
-    }
-    0
 }
 
 // Characters of a name, and bytes of a record.
@@ -49,23 +50,13 @@ pub fn is_number_of(kind: usize, number: usize) -> bool
 pub fn is_name(bytes: &[u8]) -> bool
     ensures { result ≡ is_name bytes.now }
 {
-    let mut i = 0;
-    while i < bytes.len() {
-        if bytes[i] < 32 {
-            return false;
-        }
-        if 126 < bytes[i] {
-            return false;
-        }
-        i += 1;
-    }
-    true
+    bytes.iter().all(|x| 32 <= *x && *x <= 126)
 }
 
-// What a kind and a number are refused with, 0 for nothing.
-pub fn key_refusal(kind: usize, number: usize) -> u8
-    ensures { result ≡ key_refusal kind number }
+// The checks of a kind and a number.
+pub fn check_key(kind: usize, number: usize) -> Result<(), Refusal>
+    ensures { number_found result ≡ key_refusal kind number }
 {
-    let found = strlib::check(0, 11, 1 <= limit_of(kind));
-    strlib::check(found, 12, is_number_of(kind, number))
+    strlib::check(1 <= limit_of(kind), Refusal::Form)?;
+    strlib::check(is_number_of(kind, number), Refusal::Matrix)
 }

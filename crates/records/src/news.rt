@@ -1,26 +1,30 @@
-// A new record: what it is refused with, and its bytes.
+// A new record: its checks, and its bytes.
 ghost use Rattle.std.specs.Prelude.{◌≡◌};
+ghost use Rattle.strlib.specs.Refusal.{number_found};
 ghost use Rattle.moving.specs.Moving.{pasted};
 ghost use Rattle.records.specs.Record.{new_refusal, fitted_bytes};
 
 use super::{kinds, lists};
-use strlib::StrPtr;
+use strlib::{Refusal, StrPtr};
 
 // Bytes of a record.
 const SIZE: usize = kinds::HEAD + kinds::NAME;
 
-// What a record is refused with behind a good list with this room behind it, 0 for nothing.
-pub fn new_refusal(list: &[u8], room: usize, kind: usize, number: usize, name: &[u8]) -> u8
-    ensures { result ≡ new_refusal list.now room kind number name.now }
+// The checks of a record behind a good list with this room behind it.
+pub fn check_new(
+    list: &[u8],
+    room: usize,
+    kind: usize,
+    number: usize,
+    name: &[u8],
+) -> Result<(), Refusal>
+    ensures { number_found result ≡ new_refusal list.now room kind number name.now }
 {
-    let found = kinds::key_refusal(kind, number);
-    let found = strlib::check(found, 4, name.len() <= kinds::width_of(kind));
-    if found != 0 {
-        return found;
-    }
-    let found = strlib::check(0, 2, kinds::is_name(name));
-    let found = strlib::check(found, 14, lists::find_record(list, kind, number) == 0);
-    strlib::check(found, 6, kinds::size_of(kind) <= room)
+    kinds::check_key(kind, number)?;
+    strlib::check(name.len() <= kinds::width_of(kind), Refusal::Position)?;
+    strlib::check(kinds::is_name(name), Refusal::Character)?;
+    strlib::check(lists::find_record(list, kind, number) == 0, Refusal::Repeated)?;
+    strlib::check(kinds::size_of(kind) <= room, Refusal::Room)
 }
 
 // Writes a record.

@@ -1,54 +1,48 @@
 // Adding a label behind a good list in a lent buffer.
 ghost use Rattle.std.specs.Prelude.{◌≡◌};
-ghost use Rattle.desk.specs.Label.{label_added, add_rule};
-ghost use Rattle.desk.specs.LabelInner.{add_fault};
+ghost use Rattle.records.specs.Told.{told_by};
+ghost use Rattle.desk.specs.Label.{add_rule};
+ghost use Rattle.desk.specs.LabelInner.{add_told};
 
 use super::read;
-use super::read::LabelCount;
 use records::Fault;
+use strlib::Refusal;
 
-// The answer of the writer: the list's new length.
-#[derive(Clone, Copy)]
-pub enum LabelAdded {
-    Added(usize),
-    Refused(Fault),
-}
-
-// The refusal, 0 for none, and its offset.
-fn add_fault(buffer: &[u8], used: usize, kind: usize, number: usize, name: &[u8]) -> Fault
-    ensures { result ≡ add_fault buffer.now used kind number name.now }
+// The checks, each with its offset.
+fn check_add(
+    buffer: &[u8],
+    used: usize,
+    kind: usize,
+    number: usize,
+    name: &[u8],
+) -> Result<(), Fault>
+    ensures { told_by result ≡ add_told buffer.now used kind number name.now }
 {
     if buffer.len() < used {
-        return Fault {
-            refusal: 4,
+        return Err(Fault {
+            refusal: Refusal::Position,
             offset: used,
-        };
+        });
     }
     let list = &buffer[..used];
-    let count = read::read_labels(list);
-    match count {
-        LabelCount::Records(_) => Fault {
-            refusal: records::new_refusal(list, buffer.len() - used, kind, number, name),
-            offset: list.len(),
-        },
-        LabelCount::Refused(fault) => fault,
-    }
+    read::read_labels(list)?;
+    records::check_new(list, buffer.len() - used, kind, number, name).map_err(|refusal| Fault {
+        refusal,
+        offset: list.len(),
+    })
 }
 
-// Adds one record behind the list, which is the first `used` bytes of the buffer.
+// Adds one record behind the list, which is the first `used` bytes of the buffer. The answer is the list's new length.
 pub fn add_label(
     buffer: &mut [u8],
     used: usize,
     kind: usize,
     number: usize,
     name: &[u8],
-) -> LabelAdded
-    ensures { (label_added result, buffer.new) ≡ add_rule buffer.old used kind number name.now }
+) -> Result<usize, Fault>
+    ensures { (told_by result, buffer.new) ≡ add_rule buffer.old used kind number name.now }
 {
-    let fault = add_fault(buffer, used, kind, number, name);
-    if fault.refusal != 0 {
-        return LabelAdded::Refused(fault);
-    }
+    check_add(buffer, used, kind, number, name)?;
     records::write_record(buffer, used, kind, number, name);
-    LabelAdded::Added(used + records::size_of(kind))
+    Ok(used + records::size_of(kind))
 }

@@ -1,21 +1,16 @@
 // The reader. It marks each kind and number that it met, so that its work grows with the list only.
 ghost use Rattle.std.specs.Prelude.{◌≡◌};
-ghost use Rattle.desk.specs.Label.{label_counted, read_labels_rule};
+ghost use Rattle.records.specs.Told.{told_by};
+ghost use Rattle.desk.specs.Label.{read_labels_rule};
 ghost use Rattle.desk.specs.LabelInner.{Markable, mark_of};
 
 use records::Fault;
+use strlib::Refusal;
 
 // Marks of one kind, for the numbers from 0 on, and marks in all.
 const ROW: usize = records::LOUDSPEAKERS_MAX + 1;
 
 const MARKS: usize = 3 * ROW;
-
-// The answer of the reader: how many records a good list has.
-#[derive(Clone, Copy)]
-pub enum LabelCount {
-    Records(usize),
-    Refused(Fault),
-}
 
 // Where a kind and number are marked.
 fn mark_of(kind: usize, number: usize) -> usize
@@ -27,23 +22,20 @@ fn mark_of(kind: usize, number: usize) -> usize
 
 // How many records a list has, or what the first faulty one is refused with and where it lies. A good list has no kind
 // and number twice and so 192 records at most: of a longer list, record 193 is the last that may be looked at.
-pub fn read_labels(list: &[u8]) -> LabelCount
-    ensures { label_counted result ≡ read_labels_rule list.now }
+pub fn read_labels(list: &[u8]) -> Result<usize, Fault>
+    ensures { told_by result ≡ read_labels_rule list.now }
 {
     let mut met = [false; MARKS];
     let mut offset = 0;
     let mut n = 0;
     while offset < list.len() {
         let rest = records::rest_of(list, offset);
-        let refusal = records::body_refusal(rest);
-        if refusal != 0 {
-            return LabelCount::Refused(Fault { refusal, offset });
-        }
+        records::check_body(rest).map_err(|refusal| Fault { refusal, offset })?;
         let kind = records::kind_of(rest);
         let mark = mark_of(kind, records::number_of(rest));
         if met[mark] {
-            return LabelCount::Refused(Fault {
-                refusal: 14,
+            return Err(Fault {
+                refusal: Refusal::Repeated,
                 offset,
             });
         }
@@ -51,5 +43,5 @@ pub fn read_labels(list: &[u8]) -> LabelCount
         offset += records::size_of(kind);
         n += 1;
     }
-    LabelCount::Records(n)
+    Ok(n)
 }

@@ -2,6 +2,12 @@
 use mathlib.Core.Path.{◌≡◌, refl, sym, ap, ◌∙◌}
 use mathlib.Core.Bool.{Bool, true, false, and-false}
 use mathlib.Core.List.{List, [], ◌∷◌}
+use Rattle.std.proofs.Common.{Option, Some, None, Result as Answer, Ok, Err}
+use Rattle.std.proofs.lemmas.Result.{err_from_is_err_and}
+use Rattle.std.specs.Option.{ok_or}
+use Rattle.std.specs.Result.{IsErrAnd}
+use Rattle.strlib.specs.declared.refusal.Refusal.{Refusal}
+use Rattle.strlib.specs.declared.refusal.Refusal.TheVariants.{Table}
 use Prim.Native.Nat.{ℕ, zero, suc, ◌+◌, ◌-◌, ◌*◌, ◌≤◌, ◌<◌}
 use native.Mathlib.Numerals.{add-one}
 use native.Mathlib.Omega.{arith}
@@ -11,19 +17,17 @@ use borrow.Author.Rules.{rules}
 use borrow.Author.Tests.{leb-true, le-leb, lt-leb, lt-ltb, le-ltb}
 use Rattle.strlib.proofs.Checking.{first_both}
 use Rattle.strlib.proofs.Pointing.{fits_is, good_is, text_length}
-use Rattle.strlib.proofs.Refusing.{and_both, first_is, first_before, first_behind, passed, outcome_no, outcome_gave}
+use Rattle.strlib.proofs.Refusing.{and_both, first_before, first_behind, passed, outcome_no, outcome_gave}
 use Rattle.strlib.specs.Pointer.{store_fits, good_in, text_of, characters, readable}
 use Rattle.strlib.proofs.Texts.{character_at}
-use Rattle.strlib.specs.Refusal.{Outcome, refused, gives, first, also, outcome}
+use Rattle.strlib.specs.Refusal.{refused, gives, first, outcome}
 use Rattle.strlib.specs.declared.StrPtr.{StrPtr}
 use Rattle.search.proofs.Placing.{placed_some, placed_none}
 use Rattle.search.specs.Inner.{placed}
 use Rattle.search.specs.Search.{Result, nothing, found}
 use Rattle.table.specs.Run.{size_of, word_of, is_sized, Walk, bad, rests, only_if, noted, enter, step, walk, run_over, is_rest, ran_of, host_checks, before_checks, met_checks, run_refusal, run_rule}
-use Rattle.table.specs.Inner.{note_of, rests_of, walked_of, Entered, before_run, ended}
+use Rattle.table.specs.Inner.{note_of, rests_of, Entered, before_run, ended}
 use Rattle.table.specs.declared.Progress.{Progress}
-use Rattle.table.specs.declared.Walked.{Walked}
-use Rattle.table.specs.declared.Walked.TheVariants.{Rests, Bad}
 use Rattle.table.proofs.Walking.{enter_pos, step_pos, walk_bad, walk_stop, RestsIn, in_enter, in_step, walk_turn, walk_end}
 
 positive : (q : ℕ) → (q ≡ 0 → ⊥) → 0 < q
@@ -99,33 +103,24 @@ module _ (ws : List ℕ) (size : ℕ) (h : List ℕ) (i : ℕ) (p : Progress) wh
     pub walk_over : length h ≤ i → rests_of p ≡ all
     walk_over l = sym (e ∙ walk_end ws size h i (rests_of p) l)
 
-    module _ (s : Walked) (d : walked_of s ≡ step ws size (rests_of p) (get_or h i 0)) (l : i < length h) where
-      turned : all ≡ walk ws size (drop (i + 1) h) (walked_of s)
-      turned = e ∙ walk_turn ws size h i (rests_of p) l ∙ ap (walk ws size (drop (i + 1) h)) (sym d)
+    module _ (l : i < length h) where
+      turned : (w : Walk) → w ≡ step ws size (rests_of p) (get_or h i 0) → all ≡ walk ws size (drop (i + 1) h) w
+      turned w d = e ∙ walk_turn ws size h i (rests_of p) l ∙ ap (walk ws size (drop (i + 1) h)) (sym d)
 
-      pub walk_refused : s ≡ Bad → bad ≡ all
-      walk_refused z = sym (turned ∙ ap (λ (x : Walked). walk ws size (drop (i + 1) h) (walked_of x)) z ∙ walk_bad ws size (drop (i + 1) h))
+      pub walk_refused : bad ≡ step ws size (rests_of p) (get_or h i 0) → bad ≡ all
+      walk_refused d = sym (turned bad d ∙ walk_bad ws size (drop (i + 1) h))
 
-      pub walk_on : (p' : Progress) → s ≡ Rests p' → all ≡ walk ws size (drop (i + 1) h) (rests_of p')
-      walk_on p' z = turned ∙ ap (λ (x : Walked). walk ws size (drop (i + 1) h) (walked_of x)) z
-
-  module _ (s : Walked) (d : walked_of s ≡ step ws size (rests_of p) (get_or h i 0)) (p' : Progress) (z : s ≡ Rests p') (a : p.state < size) where
-    lands : (m : ℕ) → p.read ≤ m → (p'.state < size) × (p'.read ≤ suc m)
-    lands m b =
-        landed size (suc m) p' (step ws size (rests_of p) (get_or h i 0)) (sym (ap walked_of z) ∙ d)
-        (in_step ws size m (rests_of p) (get_or h i 0) (a, b))
-
-    pub walk_state : p'.state < size
-    walk_state = (lands p.read (omega arith)).0
-
-    pub walk_read : (n : ℕ) → p.read ≤ n + i → p'.read ≤ n + (i + 1)
-    walk_read n b = omega (arith, (lands (n + i) b).1)
+      pub walk_on : (n : ℕ) → p.state < size → p.read ≤ n + i → (p' : Progress) → rests_of p' ≡ step ws size (rests_of p) (get_or h i 0)
+          → (p'.state < size) × (p'.read ≤ n + (i + 1)) × (all ≡ walk ws size (drop (i + 1) h) (rests_of p'))
+      walk_on n a b p' d =
+          let y = landed size (suc (n + i)) p' _ d (in_step ws size (n + i) (rests_of p) (get_or h i 0) (a, b)) in
+          (y.0, omega (arith, y.1), turned (rests_of p') d)
 
 pub walk_entered : (ws : List ℕ) (size q n k i : ℕ) (p : Progress) → Entered ws size q (n + k) → p.state < size → p.read ≤ n + i → i < k
     → Entered ws size p.state (p.read + 1)
 walk_entered ws size q n k i p s a b l = record { state = a; long = s.long; near = omega (arith, s.near) }
 
-pub ruleset walk_laws = (rules, walk_stopped, walk_over, walk_refused, walk_on, walk_state, walk_read, walk_entered, character_at)
+pub ruleset walk_laws = (rules, walk_stopped, walk_over, walk_refused, walk_on, walk_entered, character_at)
 
 -- ---- the first word and the number of words
 
@@ -172,19 +167,16 @@ module _ (ws h : List ℕ) (size q n : ℕ) where
   pub on_entered : Entered ws size q (n + length h) → Entered ws size q n
   on_entered k = record { state = k.state; long = k.long; near = omega (arith, k.near) }
 
-  module _ (r : Result) (s : Walked) (d : walked_of s ≡ enter ws q n r) where
-    pub on_bad : s ≡ Bad → bad ≡ walk ws size h (enter ws q n r)
-    on_bad z = sym (walk_bad ws size h) ∙ ap (walk ws size h) (ap walked_of (sym z) ∙ d)
+  module _ (r : Result) where
+    pub on_bad : bad ≡ enter ws q n r → bad ≡ walk ws size h (enter ws q n r)
+    on_bad d = sym (walk_bad ws size h) ∙ ap (walk ws size h) d
 
-    pub on_walk : (p : Progress) → s ≡ Rests p → (w : Walk) → w ≡ walk ws size h (rests_of p) → w ≡ walk ws size h (enter ws q n r)
-    on_walk p z w x = x ∙ ap (walk ws size h) (ap walked_of (sym z) ∙ d)
-
-    pub on_near : Entered ws size q (n + length h) → (p : Progress) → s ≡ Rests p → Entered ws size p.state (p.read + length h)
-    on_near k p z =
-        let l = landed size n p (enter ws q n r) (sym (ap walked_of z) ∙ d) (in_enter ws size q n n r k.state (omega arith)) in
+    pub on_near : Entered ws size q (n + length h) → (p : Progress) → rests_of p ≡ enter ws q n r → Entered ws size p.state (p.read + length h)
+    on_near k p d =
+        let l = landed size n p (enter ws q n r) d (in_enter ws size q n n r k.state (omega arith)) in
         record { state = l.0; long = k.long; near = omega (arith, l.1, k.near) }
 
-pub ruleset on_laws = (rules, on_entered, on_bad, on_walk, on_near)
+pub ruleset on_laws = (rules, on_entered, on_bad, on_near)
 
 -- ---- from state 1 with nothing read
 
@@ -198,28 +190,25 @@ module _ (ws h : List ℕ) (size : ℕ) (e : size ≡ size_of ws) where
 
 pub ruleset start_laws = (rules, start_entered, start_over)
 
--- ---- what a run answers
+-- ---- the note of where a run rests
 
-module _ (w : Walked) where
-  pub ended_bad : w ≡ Bad → refused 10 ≡ ended (walked_of w)
-  ended_bad e = rw e
+module _ (p : Progress) where
+  pub note_none : p.last.string ≡ 0 → nothing ≡ note_of p.last
+  note_none d = sym (placed_none p.last.string p.last.pos1 p.last.pos2 d)
 
-  module _ (p : Progress) (e : w ≡ Rests p) where
-    pub ended_none : p.last.string ≡ 0 → gives (nothing, p.read) ≡ ended (walked_of w)
-    ended_none d = rw e (ap (λ (r : Result). gives (r, p.read)) (sym (placed_none p.last.string p.last.pos1 p.last.pos2 d)))
+  pub note_some : (p.last.string ≡ 0 → ⊥) → found p.last.string p.last.pos1 p.last.pos2 ≡ note_of p.last
+  note_some d = sym (placed_some p.last.string p.last.pos1 p.last.pos2 d)
 
-    pub ended_at : (p.last.string ≡ 0 → ⊥) → gives (found p.last.string p.last.pos1 p.last.pos2, p.read) ≡ ended (walked_of w)
-    ended_at d = rw e (ap (λ (r : Result). gives (r, p.read)) (sym (placed_some p.last.string p.last.pos1 p.last.pos2 d)))
+pub ruleset note_laws = (rules, note_none, note_some)
 
-pub ruleset ended_laws = (rules, ended_bad, ended_none, ended_at)
+-- ---- a refusal with 10 of words that are no table
+
+pub table_left : {A B : Type 0} (o : Option A) (x : Answer A Refusal) (e : Refusal) → x ≡ Err e → x ≡ ok_or o Table
+    → (r : Answer B Refusal) → IsErrAnd r (λ x. x ≡ e) → r ≡ Err Table
+table_left None x e h k r p = let q = err_from_is_err_and r p in cc
+table_left (Some y) x e h k r p = cc
 
 -- ---- the call
-
-pub run_checked : (s : List ℕ) (host : StrPtr) (ws : List ℕ) (found₁ : ℕ) → found₁ ≡ also 0 3 (store_fits s)
-    → (found₂ : ℕ) → found₂ ≡ also found₁ 1 (good_in (length s) host) → (found₃ : ℕ) → found₃ ≡ also found₂ 2 (readable s host)
-    → (found₄ : ℕ) → found₄ ≡ also found₃ 10 (is_sized ws) → found₄ ≡ before_run s host ws
-unfolding before_run
-run_checked s host ws found₁ e₁ found₂ e₂ found₃ e₃ found₄ e₄ = first_is (before_checks s host ws) refl found₄ (rw (e₄, e₃, e₂, e₁))
 
 -- what is known where the checks of a host find nothing
 pub record HostPassed (s : List ℕ) (host : StrPtr) : Type 0 where
@@ -274,24 +263,24 @@ module _ (s : List ℕ) (host : StrPtr) (ws : List ℕ) where
     unfolding before_run run_refusal run_rule
     run_refused h = outcome_no k (run_refusal s host ws) (first_before (before_checks s host ws) (met_checks s host ws) k e h) (ran_of (run_over ws (text_of s host))) h
 
-    module _ (z : k ≡ 0) where
-      before_run_lem : BeforePassed s host ws
-      unfolding before_run
-      before_run_lem = before_passed s host ws (sym e ∙ z)
+  module _ (z : 0 ≡ before_run s host ws) where
+    before_run_lem : BeforePassed s host ws
+    unfolding before_run
+    before_run_lem = before_passed s host ws (sym z)
 
-      pub run_sized : is_sized ws ≡ true
-      run_sized = before_run_lem.sized
+    pub run_sized : is_sized ws ≡ true
+    run_sized = before_run_lem.sized
 
-      pub run_characters : (t : List ℕ) → t ≡ text_of s host → characters t ≡ true
-      unfolding readable
-      run_characters t p = ap characters p ∙ before_run_lem.known.plain
+    pub run_characters : (t : List ℕ) → t ≡ text_of s host → characters t ≡ true
+    unfolding readable
+    run_characters t p = ap characters p ∙ before_run_lem.known.plain
 
-      pub run_short : (t : List ℕ) → t ≡ text_of s host → length t ≤ 65536
-      run_short t p =
-          let ok = before_run_lem.known in
-          omega (arith, ap length p, text_length s host ok.good, good_is (length s) host ok.good, fits_is s ok.fits)
+    pub run_short : (t : List ℕ) → t ≡ text_of s host → length t ≤ 65536
+    run_short t p =
+        let ok = before_run_lem.known in
+        omega (arith, ap length p, text_length s host ok.good, good_is (length s) host ok.good, fits_is s ok.fits)
 
-      pub run_given : (t : List ℕ) → t ≡ text_of s host → (w : Walk) → w ≡ run_over ws t → (a : Outcome (Result × ℕ)) → a ≡ ended w → a ≡ run_rule s host ws
-      run_given t p w d a x = x ∙ ap ended (d ∙ ap (run_over ws) p) ∙ ran (sym e ∙ z)
+    pub run_given : (t : List ℕ) → t ≡ text_of s host → (w : Walk) → w ≡ run_over ws t → ended w ≡ run_rule s host ws
+    run_given t p w d = ap ended (d ∙ ap (run_over ws) p) ∙ ran (sym z)
 
-pub ruleset run_laws = (rules, run_checked, run_refused, run_sized, run_characters, run_short, run_given)
+pub ruleset run_laws = (rules, run_refused, run_sized, run_characters, run_short, run_given)

@@ -1,5 +1,5 @@
 -- What the functions inside the crate promise one another. Assumes nothing.
-use Rattle.std.specs.Prelude.{ℕ, ◌+◌, ◌*◌, ◌≤◌, ◌<◌, List, length}
+use Rattle.std.specs.Prelude.{ℕ, ◌+◌, ◌*◌, ◌≤◌, ◌<◌, List, length, Option, Some, None}
 use Rattle.strlib.specs.Refusal.{Outcome, refused, gives, first}
 use Rattle.strlib.specs.declared.StrPtr.{StrPtr}
 use Rattle.search.specs.Inner.{placed}
@@ -7,8 +7,6 @@ use Rattle.search.specs.Search.{Result}
 use Rattle.table.specs.Run.{Walk, bad, rests, before_checks}
 use Rattle.table.specs.declared.Note.{Note}
 use Rattle.table.specs.declared.Progress.{Progress}
-use Rattle.table.specs.declared.Walked.{Walked}
-use Rattle.table.specs.declared.Walked.TheVariants.{Rests, Bad}
 
 -- the code's values in the rule's words: a note of string 0 is none
 abbrev pub note_of : Note → Result
@@ -17,9 +15,9 @@ note_of m = placed m.string m.pos1 m.pos2
 abbrev pub rests_of : Progress → Walk
 rests_of p = rests p.state p.read (note_of p.last)
 
-abbrev pub walked_of : Walked → Walk
-walked_of (Rests p) = rests_of p
-walked_of Bad = bad
+abbrev pub walked_of : Option Progress → Walk
+walked_of (Some p) = rests_of p
+walked_of None = bad
 
 -- state q of a table with all its words, and a number read that a store's string may have
 pub record Entered (ws : List ℕ) (size q n : ℕ) : Type 0 where

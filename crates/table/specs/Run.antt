@@ -1,12 +1,13 @@
 -- The run of a table over a host: 01, "The search table". A table is a list of words, and any words may be passed.
 -- Assumes nothing.
-use Rattle.std.specs.Prelude.{ℕ, zero, suc, ◌+◌, ◌-◌, ◌*◌, Bool, true, false, ◌&&◌, List, [], ◌∷◌, ◌++◌, leb, ltb, length, get_or}
+use Rattle.std.specs.Prelude.{ℕ, zero, suc, ◌+◌, ◌-◌, ◌*◌, Bool, true, false, ◌&&◌, List, [], ◌∷◌, ◌++◌, leb, ltb, length, get_or, Option, Some, None, Ok, Err, Result as Answer}
 use Rattle.strlib.specs.Pointer.{store_fits, good_in, text_of, readable}
-use Rattle.strlib.specs.Refusal.{Outcome, refused, gives, first, outcome}
+use Rattle.strlib.specs.Refusal.{Outcome, refused, gives, first, outcome, refusal_number}
 use Rattle.strlib.specs.declared.StrPtr.{StrPtr}
+use Rattle.strlib.specs.declared.refusal.Refusal.{Refusal}
 use Rattle.search.specs.Search.{Result, nothing, found}
-use Rattle.table.specs.declared.RunAnswer.{RunAnswer}
-use Rattle.table.specs.declared.RunAnswer.TheVariants.{Found, Nothing, Refused}
+use Rattle.table.specs.declared.Note.{Note}
+use Rattle.table.specs.declared.runs.Ran.{Ran}
 
 -- word 0: the number of states, S
 abbrev pub size_of : List ℕ → ℕ
@@ -83,8 +84,14 @@ run_refusal s host ws = first (run_checks s host ws)
 unfoldable pub run_rule : List ℕ → StrPtr → List ℕ → Outcome (Result × ℕ)
 run_rule s host ws = outcome (run_refusal s host ws) (ran_of (run_over ws (text_of s host)))
 
--- the paper's value for each case of the answer
-abbrev pub ran_answered : RunAnswer → Outcome (Result × ℕ)
-ran_answered (Found m n) = gives (found m.string m.pos1 m.pos2, n)
-ran_answered (Nothing n) = gives (nothing, n)
-ran_answered (Refused k) = refused k
+-- the paper's value of an answer
+abbrev pub noted_as : Option Note → Result
+noted_as (Some m) = found m.string m.pos1 m.pos2
+noted_as None = nothing
+
+abbrev pub ran_as : Ran → Result × ℕ
+ran_as r = (noted_as r.note, r.read)
+
+abbrev pub ran_answered : Answer Ran Refusal → Outcome (Result × ℕ)
+ran_answered (Ok r) = gives (ran_as r)
+ran_answered (Err refusal) = refused (refusal_number refusal)

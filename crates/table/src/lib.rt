@@ -6,11 +6,12 @@ mod runs;
 
 ghost use Rattle.std.specs.Prelude.{◌≡◌, true, ◌+◌, ◌≤◌, length};
 ghost use Rattle.strlib.specs.Pointer.{characters};
-ghost use Rattle.table.specs.Run.{size_of, enter, step, walk};
+ghost use Rattle.table.specs.Run.{size_of, enter, step, walk, noted_as};
 ghost use Rattle.table.specs.Inner.{note_of, rests_of, walked_of, Entered};
 
 pub use onward::resume;
-pub use runs::run;
+pub use runs::{Ran, run};
+use strlib::StrPtr;
 
 #[derive(Clone, Copy)]
 pub struct Note {
@@ -28,19 +29,16 @@ pub struct Progress {
     pub last: Note,
 }
 
-// Where a run rests, or that it met words that are no table.
-#[derive(Clone, Copy)]
-pub enum Walked {
-    Rests(Progress),
-    Bad,
-}
-
-// The last note or nothing found, and the number read.
-#[derive(Clone, Copy)]
-pub enum RunAnswer {
-    Found(Note, usize),
-    Nothing(usize),
-    Refused(u8),
+impl Progress {
+    pub fn note(self) -> Option<Note>
+        ensures { noted_as result ≡ note_of self.last }
+    {
+        if self.last.string == 0 {
+            None
+        } else {
+            Some(self.last)
+        }
+    }
 }
 
 // Words of a state: the next states by character, then the string's number, then the length.
@@ -66,28 +64,28 @@ fn size_of(table: &[u16]) -> usize
     wide(table[0])
 }
 
-// The state is entered: its string, if it has one, is noted.
-fn enter(table: &[u16], size: usize, at: Progress) -> Walked
+// The state is entered: its string, if it has one, is noted. None if its words are no table's.
+fn enter(table: &[u16], size: usize, at: Progress) -> Option<Progress>
     requires { Entered table.now size at.state at.read }
     ensures { walked_of result ≡ enter table.now at.state at.read (note_of at.last) }
 {
     let q = at.state;
     if q == 0 {
-        return Walked::Rests(at);
+        return Some(at);
     }
     let f = wide(table[1 + STATE_WORDS * q + STRING_WORD]);
     if f == 0 {
-        return Walked::Rests(at);
+        return Some(at);
     }
-    if strlib::StrPtr::LIST_MAX < f {
-        return Walked::Bad;
+    if StrPtr::LIST_MAX < f {
+        return None;
     }
     let l = wide(table[1 + STATE_WORDS * q + LENGTH_WORD]);
     let n = at.read;
     if n < l {
-        return Walked::Bad;
+        return None;
     }
-    Walked::Rests(Progress {
+    Some(Progress {
         state: q,
         read: n,
         last: Note {
@@ -99,56 +97,44 @@ fn enter(table: &[u16], size: usize, at: Progress) -> Walked
 }
 
 // One character is read and the next state entered.
-fn step(table: &[u16], size: usize, at: Progress, c: u8) -> Walked
+fn step(table: &[u16], size: usize, at: Progress, c: u8) -> Option<Progress>
     requires { Entered table.now size at.state (at.read + 1) × (c ≤ 127) × (at.state ≡ 0 → ⊥) }
     ensures { walked_of result ≡ step table.now size (rests_of at) c }
 {
     let next = wide(table[1 + STATE_WORDS * at.state + c as usize]);
     if size <= next {
-        return Walked::Bad;
+        return None;
     }
-    let last = at.last;
-    let n = at.read;
     enter(
         table,
         size,
         Progress {
             state: next,
-            read: n + 1,
-            last,
+            read: at.read + 1,
+            last: at.last,
         },
     )
 }
 
 // The characters of a text are read one by one, until the run stops.
-fn walk(text: &[u8], table: &[u16], size: usize, from: Progress) -> Walked
+fn walk(text: &[u8], table: &[u16], size: usize, from: Progress) -> Option<Progress>
     requires { Entered table.now size from.state (from.read + length text.now) × (characters text.now ≡ true) }
     ensures { walked_of result ≡ walk table.now size text.now (rests_of from) }
 {
     let mut at = from;
-    let mut i = 0;
-    while i < text.len() {
+    for c in text {
         if at.state == 0 {
-            return Walked::Rests(at);
+            return Some(at);
         }
-        let s = step(table, size, at, text[i]);
-        let Walked::Rests(next) = s else {
-            return Walked::Bad;
-        };
-        at = next;
-        i += 1;
+        at = step(table, size, at, *c)?;
     }
-    Walked::Rests(at)
+    Some(at)
 }
 
 // The state is entered, and a text is read from there.
-fn read_on(text: &[u8], table: &[u16], size: usize, from: Progress) -> Walked
+fn read_on(text: &[u8], table: &[u16], size: usize, from: Progress) -> Option<Progress>
     requires { Entered table.now size from.state (from.read + length text.now) × (characters text.now ≡ true) }
     ensures { walked_of result ≡ walk table.now size text.now (enter table.now from.state from.read (note_of from.last)) }
 {
-    let s = enter(table, size, from);
-    let Walked::Rests(at) = s else {
-        return Walked::Bad;
-    };
-    walk(text, table, size, at)
+    walk(text, table, size, enter(table, size, from)?)
 }

@@ -11,7 +11,7 @@ use lib.Seq.{take_all}
 use mir.Syntax.{w64}
 use mir.Val.{Fits}
 use borrow.Author.Rules.{rules}
-use Rattle.strlib.specs.Checks.{into_checks, into_refusal}
+use Rattle.strlib.specs.Checks.{into_checks}
 use Rattle.strlib.specs.Pointer.{sized, text_of, clear}
 use Rattle.strlib.specs.Refusal.{gives, outcome, after, ruled}
 use Rattle.strlib.specs.Store.{put}

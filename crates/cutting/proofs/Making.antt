@@ -1,7 +1,7 @@
 -- Laws of the part that is cut out: within the bounds each difference is a number, and the arms of the code make the
 -- part of the definition. Assumes nothing.
-use mathlib.Core.Path.{◌≡◌, refl, sym, ◌∙◌}
-use mathlib.Core.Bool.{Bool, true, cond}
+use mathlib.Core.Path.{◌≡◌, refl, sym}
+use mathlib.Core.Bool.{true, cond}
 use mathlib.Core.List.{List}
 use Prim.Native.Nat.{ℕ, ◌+◌, ◌-◌, ◌≤◌}
 use native.Mathlib.Omega.{arith}
@@ -13,7 +13,7 @@ use Rattle.strlib.proofs.Pointing.{fits_is, good_is}
 use Rattle.strlib.specs.Pointer.{sized, part_of, store_fits, good_in, text_of, readable}
 use Rattle.strlib.specs.declared.StrPtr.{StrPtr}
 use Rattle.cutting.proofs.Bounding.{counted_is, between_is}
-use Rattle.cutting.specs.Cutting.{trimmed_length, second, in_bounds, cut_of, cut_reads, cut_checks, cut_refusal, cut_rule}
+use Rattle.cutting.specs.Cutting.{trimmed_length, second, in_bounds, cut_of, cut_reads, cut_checks, cut_refusal}
 use Rattle.cutting.specs.Inner.{Cuttable, Inside}
 use Rattle.cutting.specs.declared.Cut.{Cut}
 use Rattle.cutting.specs.declared.Cut.TheVariants.{Relative, Counted, Between, Trimmed}

@@ -34,7 +34,12 @@ pub fn relative(store: &[u8], string: StrPtr, offset: usize) -> Result<StrPtr, R
 }
 
 // `count` characters from a position on, which may reach past the length up to the maximum.
-pub fn counted(store: &[u8], string: StrPtr, position: usize, count: usize) -> Result<StrPtr, Refusal>
+pub fn counted(
+    store: &[u8],
+    string: StrPtr,
+    position: usize,
+    count: usize,
+) -> Result<StrPtr, Refusal>
     ensures { answered result ≡ cut_rule store.now string (Counted position count) }
 {
     cut_string(store, string, Cut::Counted(position, count))

@@ -1,6 +1,6 @@
 -- Every pointer that a call gives is good for the store: it is the given one with a length that keeps to its maximum.
 -- Assumes nothing.
-use mathlib.Core.Path.{refl, sym}
+use mathlib.Core.Path.{sym}
 use mathlib.Core.List.{List}
 use Prim.Native.Nat.{ℕ}
 use native.Mathlib.Omega.{arith}

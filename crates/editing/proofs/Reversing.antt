@@ -9,7 +9,7 @@ use lib.Dec.{leb}
 use lib.ListN.{length}
 use borrow.Author.Tests.{leb-true}
 use Rattle.strlib.specs.Checks.{into_checks}
-use Rattle.strlib.specs.Pointer.{sized, store_fits, good_in, text_of, readable, clear}
+use Rattle.strlib.specs.Pointer.{sized, good_in, text_of, clear}
 use Rattle.strlib.specs.Refusal.{gives}
 use Rattle.strlib.specs.Store.{put}
 use Rattle.strlib.specs.declared.StrPtr.{StrPtr}

@@ -166,7 +166,7 @@ module _ (s t : List ℕ) (destination : StrPtr) (ps : List StrPtr) (index skip 
         let f : q + (destination.maximum - n) - length (text_of s x) ≡ 0 + (destination.maximum - n) = omega (arith, text) in
         record {
           given = F.given;
-            string = omega arith;
+          string = omega arith;
           character = omega arith;
           long = F.long;
           size = F.size;
@@ -212,7 +212,7 @@ module _ (s t : List ℕ) (destination : StrPtr) (ps : List StrPtr) (index skip 
           let f : q + m + (destination.maximum - (n + m)) ≡ q + (destination.maximum - n) = omega (arith, em, F.size) in
           record {
             given = F.given;
-                string = F.string;
+            string = F.string;
             character = omega (arith, x_length, em, fill_sub);
             long = g ∙ F.long;
             size = omega (arith, em, F.size);
@@ -229,7 +229,7 @@ module _ (s t t' : List ℕ) (destination : StrPtr) (ps : List StrPtr) (index sk
   turned = fill_more s t destination ps index skip n i q F x d h is m t' e
 
   pub fill_on : x.length ≤ q + m → Filling s t' destination ps index skip (n + m) (i + 1) 0
-  fill_on = used_up s t' destination ps index skip (n + m) i (q + m)  turned x d h is
+  fill_on = used_up s t' destination ps index skip (n + m) i (q + m) turned x d h is
 
   pub fill_stop : q + m < x.length → (r : Round)
       → r ≡ record { to = sized destination (n + m); completed = false; next = record { string = i + 1; character = q + m + 1 } }

@@ -15,10 +15,10 @@ use Rattle.strlib.proofs.Checking.{first_both}
 use Rattle.strlib.proofs.Pointing.{fits_is}
 use Rattle.strlib.proofs.Answering.{ruled_right}
 use Rattle.strlib.proofs.Refusing.{passed}
-use Rattle.copying.specs.Copying.{bounded_copy, finished}
+use Rattle.copying.specs.Copying.{finished}
 use Rattle.copying.specs.declared.Wrote.{Wrote}
 use Rattle.copying.proofs.Padding.{bounded}
-use Rattle.joining.specs.Joining.{listed_checks, listed_refusal, join_refusal, join_rule}
+use Rattle.joining.specs.Joining.{listed_checks, join_refusal, join_rule}
 use Rattle.joining.specs.Resuming.{length_at, place_in, before, piece, completes, round_of, round_from, join_from_refusal, join_from_rule}
 use Rattle.joining.specs.Inner.{Resumable}
 use Rattle.joining.specs.declared.Place.{Place}

@@ -1,4 +1,4 @@
-use Rattle.std.proofs.Common.{ℕ, ◌≡◌, ◌+◌, arith, add-zero}
+use Rattle.std.proofs.Common.{◌≡◌, ◌+◌, arith}
 use Rattle.strlib.specs.declared.StrPtr.{StrPtr}
 use Rattle.joining.proofs.Filling.{fill_none, fill_next, fill_on, fill_stop, fill_end, rest_at, rest_in, rest_over}
 use Rattle.joining.proofs.fill.Goals as goal

@@ -2,6 +2,7 @@
 -- lengths. Assumes nothing.
 use mathlib.Core.Path.{◌≡◌, refl, sym, ◌∙◌}
 use mathlib.Core.Bool.{Bool, true, false, cond}
+use mathlib.Core.Logic.{◌⊎◌, inl, inr}
 use mathlib.Core.List.{List}
 use Prim.Native.Nat.{ℕ, ◌+◌, ◌-◌, ◌≤◌, ◌<◌, min, max}
 use native.Mathlib.Omega.{arith}
@@ -9,7 +10,7 @@ use lib.Dec.{eqb, ltb}
 use lib.IntN.{ℤ, pos, ◌+ℤ◌}
 use lib.ListN.{length, get_or}
 use borrow.Author.Rules.{rules}
-use borrow.Author.Tests.{eq-eqb, lt-ltb, le-ltb}
+use borrow.Author.Tests.{eq-eqb, ne_eqb, lt-ltb, le-ltb}
 use Rattle.strlib.proofs.Pointing.{either}
 use Rattle.strlib.proofs.Refusing.{bool_case}
 use Rattle.strlib.proofs.Texts.{character_at}
@@ -21,10 +22,6 @@ use Rattle.compare.proofs.Extending.{extent, pairs_unpadded}
 use Rattle.compare.proofs.Ordering.{order_plain}
 use Rattle.compare.proofs.Pairing.{FirstFrom, first_from, first_of, unequal_is, inside_is, padded_in, padded_past}
 use Rattle.compare.proofs.Tailing.{past_any, zero_translates}
-
-pub order_lengths : (m n q r : ℕ) → q ≡ cond (ltb n m) 2 1 → r ≡ cond (ltb m n) 0 q → r ≡ order_n m n
-unfolding order_n
-order_lengths m n q r e f = f ∙ rw e
 
 pub shortest : (xs ys : List ℕ) (n : ℕ) → n ≡ min (length xs) (length ys) → characters xs ≡ true → characters ys ≡ true → Ended xs ys n
 shortest xs ys n e c d = record { shorter = e; characters_1 = c; characters_2 = d }
@@ -146,14 +143,15 @@ module _ (xs ys : List ℕ) (style n d : ℕ) (t t' : ℤ) (p : Ended xs ys n) (
     unpadded : (style ≡ 0 → ⊥) → n ≡ pairs style (length xs) (length ys)
     unpadded s = p.shorter ∙ sym (pairs_unpadded style (length xs) (length ys) s)
 
-    pub by_length : (o : ℕ) (b : Bool) → (style ≡ 0 → ⊥) → b ≡ length_decides style (length xs) (length ys) → b ≡ true → o ≡ order_n (length xs) (length ys)
-        → record { order = o; split = n + 1 } ≡ decision xs ys style t'
-    unfolding decided
-    by_length o b s eb hb eo = rw eo (rw (le-ltb d n h, ← eb, hb) at (by n d (unpadded s) ed))
+    pub by_length : (o : ℕ) → style ≡ 1 → (length xs ≡ length ys → ⊥) → o ≡ order_n (length xs) (length ys) → record { order = o; split = n + 1 } ≡ decision xs ys style t'
+    unfolding decided length_decides
+    by_length o s f eo =
+        rw eo (rw (le-ltb d n h, eq-eqb style 1 s, ne_eqb (length xs) (length ys) f) at (by n d (unpadded (λ z. omega arith)) ed))
 
-    pub by_nothing : (b : Bool) → (style ≡ 0 → ⊥) → b ≡ length_decides style (length xs) (length ys) → b ≡ false → record { order = 1; split = 0 } ≡ decision xs ys style t'
-    unfolding decided
-    by_nothing b s eb hb = rw (le-ltb d n h, ← eb, hb) at (by n d (unpadded s) ed)
+    pub by_nothing : (style ≡ 0 → ⊥) → ((style ≡ 1) × (length xs ≡ length ys)) ⊎ (style ≡ 1 → ⊥) → record { order = 1; split = 0 } ≡ decision xs ys style t'
+    unfolding decided length_decides
+    by_nothing s (inl p) = rw (le-ltb d n h, eq-eqb style 1 p.0, eq-eqb (length xs) (length ys) p.1) at (by n d (unpadded s) ed)
+    by_nothing s (inr f) = rw (le-ltb d n h, ne_eqb style 1 f) at (by n d (unpadded s) ed)
 
 pub ruleset deciding_laws =
-    (rules, order_lengths, shortest, both_have, first_pair, read_back, no_pair, zero_translates, tail_of_first, tail_of_second, tail_nothing, by_pair, by_tail, by_length, by_nothing)
+    (rules, shortest, both_have, first_pair, read_back, no_pair, zero_translates, tail_of_first, tail_of_second, tail_nothing, by_pair, by_tail, by_length, by_nothing)

@@ -4,6 +4,7 @@ pub mod Ordering
 pub mod Extending
 pub mod Pairing
 pub mod Padding
+pub mod Walking
 pub mod Tailing
 pub mod Deciding
 pub mod Calling

@@ -5,8 +5,6 @@ mod padded;
 mod pairs;
 mod refusal;
 
-use std::cmp::Ordering;
-
 ghost use Rattle.std.specs.Prelude.{◌≡◌, true, ◌<◌, pos, ◌+ℤ◌};
 ghost use Rattle.std.specs.Ordering.{ordering_index};
 ghost use Rattle.strlib.specs.Pointer.{characters};
@@ -15,6 +13,7 @@ ghost use Rattle.compare.specs.Compare.{holds, translates, unequal_from, decisio
 ghost use Rattle.compare.specs.Inner.{Paired, Ended, tail_decision};
 
 pub use padded::padded_order;
+use std::cmp::Ordering;
 use strlib::{Refusal, StrPtr};
 
 // The answer: whether the code's relation holds, the order of the two lengths, and the split.

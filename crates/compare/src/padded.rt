@@ -1,9 +1,9 @@
 // The padded order of two texts of any bytes, which need not lie in one store.
-use std::cmp::Ordering;
-
 ghost use Rattle.std.specs.Prelude.{◌≡◌, get_or};
 ghost use Rattle.std.specs.Ordering.{ordering_index};
 ghost use Rattle.compare.specs.Padded.{padded_order};
+
+use std::cmp::Ordering;
 
 // A text goes on with blanks.
 fn byte_at(text: &[u8], i: usize) -> u8

@@ -9,7 +9,10 @@ fn check_translation(translation: i64) -> Result<(), Refusal>
     ensures { number_found result ≡ cond (translates translation) 0 3 }
 {
     strlib::check(
-        (StrPtr::TRANSLATION_MIN..=StrPtr::TRANSLATION_MAX).contains(&translation),
+        strlib::both(
+            StrPtr::TRANSLATION_MIN <= translation,
+            translation <= StrPtr::TRANSLATION_MAX,
+        ),
         Refusal::Range,
     )
 }

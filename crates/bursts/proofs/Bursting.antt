@@ -13,21 +13,19 @@ use borrow.Author.Rules.{rules}
 use borrow.Author.Tests.{leb-true, le-leb, lt-leb}
 use Rattle.strlib.proofs.Checking.{first_both}
 use Rattle.strlib.proofs.Pointing.{leb_same}
-use Rattle.strlib.proofs.Refusing.{and_both, first_is, passed, first_before, first_behind, outcome_no}
+use Rattle.strlib.proofs.Refusing.{and_both, passed, first_before, first_behind, outcome_no}
 use Rattle.strlib.specs.Pointer.{characters}
-use Rattle.strlib.specs.Refusal.{Outcome, refused, gives, first, also, outcome}
+use Rattle.strlib.specs.Refusal.{Outcome, refused, gives, first, outcome}
 use Rattle.search.specs.Search.{Result, nothing, found}
 use Rattle.table.proofs.Resuming.{resumed_is}
 use Rattle.search.proofs.Placing.{placed_none, placed_some}
 use Rattle.table.specs.Run.{size_of, is_sized, Walk, bad, rests, only_if, is_rest}
 use Rattle.table.specs.Resume.{read_on, resumed}
 use Rattle.search.specs.Inner.{placed}
-use Rattle.table.specs.Inner.{rests_of, walked_of, note_of}
+use Rattle.table.specs.Inner.{rests_of, note_of}
 use Rattle.table.specs.declared.Progress.{Progress}
-use Rattle.table.specs.declared.Walked.{Walked}
-use Rattle.table.specs.declared.Walked.TheVariants.{Rests, Bad}
 use Rattle.bursts.specs.Bursts.{carried_note, carried_by, is_note, agrees, is_sound, is_carried, delivery_checks, before_burst_checks, before_burst, walked, burst_refusal, carried_on, burst_rule}
-use Rattle.bursts.specs.Inner.{own_checks, own_refusal}
+use Rattle.bursts.specs.Inner.{own_refusal}
 use Rattle.bursts.specs.declared.Carried.{Carried}
 
 -- ---- what is carried
@@ -104,16 +102,6 @@ module _ (q n d j pos1 pos2 : ℕ) (stopped : Bool) where
 pub ruleset place_laws = (rules, rests_none, rests_some, carried_none, carried_some)
 
 -- ---- the refusals
-
--- the checks that need no table, as they are made, one behind the other
-module _ (c : Carried) (b : List ℕ) (found₁ : ℕ) (e₁ : found₁ ≡ also 0 3 (leb (length b) 300)) where
-  pub burst_checked : (fits : Bool) → fits ≡ leb (c.total + length b) 65536 → (found₂ : ℕ) → found₂ ≡ also found₁ 3 fits
-      → (found₃ : ℕ) → found₃ ≡ also found₂ 2 (characters b) → (sound : Bool) → sound ≡ is_sound c → (found₄ : ℕ) → found₄ ≡ also found₃ 10 sound
-      → found₄ ≡ own_refusal c b
-  unfolding own_refusal
-  burst_checked fits e found₂ e₂ found₃ e₃ sound d found₄ e₄ = first_is (own_checks c b) refl found₄ (rw (e₄, e₃, e₂, e₁, e, d))
-
-pub ruleset checked_laws = (rules, burst_checked)
 
 pub record Sound (c : Carried) : Type 0 where
   pub stopped : agrees c.stopped c.state ≡ true
@@ -219,49 +207,36 @@ module _ (c : Carried) (b ws : List ℕ) where
       outcome_no k (burst_refusal c b ws) (first_before (before_burst_checks c b ws) afterwards k e h)
       (carried_on (c.total + length b) (walked c b ws)) h
 
-module _ (c : Carried) (b ws : List ℕ) (k : ℕ) (e : k ≡ own_refusal c b) where
-  pub burst_refused : (k ≡ 0 → ⊥) → refused k ≡ burst_rule c b ws
-  burst_refused h = burst_no c b ws k (own_before c b ws k e h) h
+module _ (c : Carried) (b ws : List ℕ) where
+  pub burst_refused : (k : ℕ) → k ≡ own_refusal c b → (k ≡ 0 → ⊥) → refused k ≡ burst_rule c b ws
+  burst_refused k e h = burst_no c b ws k (own_before c b ws k e h) h
 
-  module _ (z : k ≡ 0) where
-    own : own_refusal c b ≡ 0
-    own = sym e ∙ z
-
+  module _ (z : 0 ≡ own_refusal c b) where
     pub burst_note : is_note c.read (carried_note c) ≡ true
-    burst_note = (own_sound c b own).note
+    burst_note = (own_sound c b (sym z)).note
 
     pub burst_fits : Fits w64 (c.total + length b)
-    burst_fits = record { fits = omega (arith, (delivered c b own).total) }
+    burst_fits = record { fits = omega (arith, (delivered c b (sym z)).total) }
 
     decided : (on : Bool) → (is_sized ws && ltb c.state (size_of ws)) ≡ on
         → burst_rule c b ws ≡ answer_at (c.total + length b) (only_if on (read_on ws b c.state c.read (carried_note c)))
     unfolding walked
-    decided true y = burst_yes c b ws (own_decides c b own ws true y)
-    decided false y = sym (burst_no c b ws 10 (sym (own_decides c b own ws false y)) (λ x. omega arith))
+    decided true y = burst_yes c b ws (own_decides c b (sym z) ws true y)
+    decided false y = sym (burst_no c b ws 10 (sym (own_decides c b (sym z) ws false y)) (λ x. omega arith))
 
     -- from where the table's run rests
     goes_on : burst_rule c b ws ≡ answer_at (c.total + length b) (resumed ws b c.state c.read (carried_note c))
     goes_on =
         decided (is_sized ws && ltb c.state (size_of ws)) refl
-        ∙ ap (answer_at (c.total + length b)) (sym (resumed_is ws b c.state c.read (carried_note c) (delivered c b own).plain (own_near c b own)))
+        ∙ ap (answer_at (c.total + length b)) (sym (resumed_is ws b c.state c.read (carried_note c) (delivered c b (sym z)).plain (own_near c b (sym z))))
 
-    module _ (p : Progress) (ep : rests_of p ≡ rests c.state c.read (carried_note c)) (s : Walked)
-        (d : walked_of s ≡ resumed ws b p.state p.read (note_of p.last)) where
+    module _ (p : Progress) (ep : rests_of p ≡ rests c.state c.read (carried_note c)) where
       resting : {q n q' n' : ℕ} {r r' : Result} → rests q n r ≡ rests q' n' r' → (q ≡ q') × (n ≡ n') × (r ≡ r')
       resting h = (cc, cc, cc)
 
-      same : walked_of s ≡ resumed ws b c.state c.read (carried_note c)
-      same = let y = resting ep in d ∙ rw (y.0, y.1, y.2)
+      pub burst_rests : (w : Walk) → w ≡ resumed ws b p.state p.read (note_of p.last) → answer_at (c.total + length b) w ≡ burst_rule c b ws
+      burst_rests w d =
+          let y = resting ep in
+          ap (answer_at (c.total + length b)) (d ∙ rw (y.0, y.1, y.2)) ∙ sym goes_on
 
-      rule : burst_rule c b ws ≡ answer_at (c.total + length b) (walked_of s)
-      rule = goes_on ∙ ap (answer_at (c.total + length b)) (sym same)
-
-      pub burst_bad : s ≡ Bad → refused 10 ≡ burst_rule c b ws
-      burst_bad x = sym (rule ∙ ap (λ (y : Walked). answer_at (c.total + length b) (walked_of y)) x)
-
-      pub burst_on : (at : Progress) → s ≡ Rests at → (r : Carried)
-          → r ≡ carried_by at.state at.read (c.total + length b) (note_of at.last) (eqb at.state 0)
-          → gives r ≡ burst_rule c b ws
-      burst_on at x r y = ap gives y ∙ sym (rule ∙ ap (λ (y : Walked). answer_at (c.total + length b) (walked_of y)) x)
-
-pub ruleset burst_laws = (rules, burst_refused, burst_note, burst_fits, burst_bad, burst_on)
+pub ruleset burst_laws = (rules, burst_refused, burst_note, burst_fits)

@@ -2,13 +2,11 @@
 -- number read, total delivered, note, and whether it has stopped. Assumes nothing.
 use Rattle.std.specs.Prelude.{ℕ, suc, ◌+◌, Bool, true, false, ◌&&◌, cond, List, [], ◌∷◌, ◌++◌, leb, ltb, eqb, length}
 use Rattle.strlib.specs.Pointer.{characters}
-use Rattle.strlib.specs.Refusal.{Outcome, refused, gives, first, outcome}
+use Rattle.strlib.specs.Refusal.{Outcome, first, outcome}
 use Rattle.search.specs.Search.{Result, nothing, found}
 use Rattle.table.specs.Run.{size_of, is_sized, Walk, bad, rests, is_rest}
 use Rattle.table.specs.Resume.{read_on}
 use Rattle.bursts.specs.declared.Carried.{Carried}
-use Rattle.bursts.specs.declared.BurstAnswer.{BurstAnswer}
-use Rattle.bursts.specs.declared.BurstAnswer.TheVariants.{Carries, Refused}
 
 -- the note carried, if there is one: where there is none, string, pos1 and pos2 say nothing
 abbrev pub carried_note : Carried → Result
@@ -79,8 +77,3 @@ burst_rule c burst ws = outcome (burst_refusal c burst ws) (carried_on (c.total 
 -- what the run answers with this carried: the last note, and the number read
 abbrev pub answer_of : Carried → Result × ℕ
 answer_of c = (carried_note c, c.read)
-
--- the paper's value for each case of the answer
-abbrev pub burst_answered : BurstAnswer → Outcome Carried
-burst_answered (Carries c) = gives c
-burst_answered (Refused k) = refused k

@@ -5,11 +5,11 @@
 mod carrying;
 
 ghost use Rattle.std.specs.Prelude.{◌≡◌};
-ghost use Rattle.bursts.specs.Bursts.{fresh, burst_answered, burst_rule};
+ghost use Rattle.strlib.specs.Refusal.{number_found, answered};
+ghost use Rattle.bursts.specs.Bursts.{fresh, burst_rule};
 ghost use Rattle.bursts.specs.Inner.{own_refusal};
 
-use strlib::StrPtr;
-use table::Walked;
+use strlib::{Refusal, StrPtr};
 
 // What a run carries from burst to burst; unless `noted`, string, pos1 and pos2 say nothing. It crosses the C boundary
 // as it is.
@@ -26,18 +26,12 @@ pub struct Carried {
     pub stopped: bool,
 }
 
-// What is carried on, which has the answer for all bursts that were taken.
-#[derive(Clone, Copy)]
-pub enum BurstAnswer {
-    Carries(Carried),
-    Refused(u8),
-}
-
 impl Carried {
     // Characters of a burst.
     pub const BURST_MAX: usize = 300;
 
     // A run to which no burst was given.
+    #[tactic(auto, unfolding(crate::specs::Bursts::fresh))]
     pub fn fresh() -> Self
         ensures { result ≡ fresh }
     {
@@ -55,33 +49,29 @@ impl Carried {
 }
 
 // What is refused without a look at the table.
-fn own_refusal(carried: Carried, burst: &[u8]) -> u8
-    ensures { result ≡ own_refusal carried burst.now }
+#[tactic(auto, using(strlib::proofs::Answering::answer_laws), unfolding(crate::specs::Inner::own_refusal))]
+fn check_own(carried: Carried, burst: &[u8]) -> Result<(), Refusal>
+    ensures { number_found result ≡ own_refusal carried burst.now }
 {
     let n = burst.len();
-    let found = strlib::check(0, 3, n <= Carried::BURST_MAX);
-    let found = strlib::check(
-        found,
-        3,
+    strlib::check(n <= Carried::BURST_MAX, Refusal::Range)?;
+    strlib::check(
         strlib::is_within(StrPtr::STORE_MAX, carried.total, n),
-    );
-    let found = strlib::check_characters(found, burst);
-    strlib::check(found, 10, carrying::is_sound(carried))
+        Refusal::Range,
+    )?;
+    strlib::check_characters(burst)?;
+    strlib::check(carrying::is_sound(carried), Refusal::Table)
 }
 
-// One burst of a host. A run that has not stopped enters its carried state anew, for an empty burst too. Whether the
-// words have a table's size and the carried state is tested by `resume`, before it reads anything: 10 in either case.
-pub fn burst(carried: Carried, burst: &[u8], table: &[u16]) -> BurstAnswer
-    ensures { burst_answered result ≡ burst_rule carried burst.now table.now }
+// One burst of a host; what is carried on has the answer for all bursts that were taken. A run that has not stopped
+// enters its carried state anew, for an empty burst too. Whether the words have a table's size and the carried state is
+// tested by `resume`, before it reads anything: 10 in either case.
+pub fn burst(carried: Carried, burst: &[u8], table: &[u16]) -> Result<Carried, Refusal>
+    ensures { answered result ≡ burst_rule carried burst.now table.now }
 {
-    let refusal = own_refusal(carried, burst);
-    if refusal != 0 {
-        return BurstAnswer::Refused(refusal);
-    }
-    let s = table::resume(burst, table, carrying::progress_of(carried));
-    let Walked::Rests(at) = s else {
-        return BurstAnswer::Refused(10);
-    };
+    check_own(carried, burst)?;
+    let from = carrying::progress_of(carried);
+    let at = table::resume(burst, table, from).ok_or(Refusal::Table)?;
     let total = carried.total + burst.len();
-    BurstAnswer::Carries(carrying::carried_of(at, total))
+    Ok(carrying::carried_of(at, total))
 }

@@ -1,48 +1,40 @@
--- Laws of the loops: what is sought from a place on is sought from the place reached, as long as nothing was met.
--- Assumes nothing.
-use mathlib.Core.Path.{◌≡◌, sym, ◌∙◌}
-use mathlib.Core.List.{List}
-use Prim.Native.Nat.{ℕ, suc, ◌+◌, ◌-◌, ◌≤◌, ◌<◌}
-use native.Mathlib.Nat.{zero-add}
-use native.Mathlib.Numerals.{add-one}
-use native.Mathlib.Omega.{arith}
-use borrow.Author.Rules.{rules}
-use borrow.Author.Tests.{eq-eqb, ne_eqb}
-use lib.ListN.{length, get_or, take, drop, length-drop, drop_of_length-le}
-use lib.Seq.{drop-cons, take_all}
-use Rattle.strlib.specs.Pointer.{pointer}
-use Rattle.strlib.specs.declared.StrPtr.{StrPtr}
+-- Laws of the ends that are sought from a place on. Assumes nothing.
+use Rattle.std.proofs.Common.{◌≡◌, refl, Bool, cond, not, List, ℕ, ◌+◌, ◌-◌, Option, Some, None, unwrap_or, length, take, drop, eqb, ltb, arith, zero-add, one-add}
+use Rattle.std.specs.List.{position_or_len}
+use Rattle.std.proofs.lemmas.List.Recursion.{is_position_or_len}
+use Rattle.std.proofs.lemmas.List.Sums.{prefix_len-le-length}
+use borrow.Author.Tests.{ltb-false}
+use lib.ListN.{length-drop}
+use lib.Seq.{take_all}
+use Rattle.strlib.proofs.Refusing.{bool_case}
 use Rattle.words.specs.Ends.{up_to, blank_count, blanks_end, end_of}
-use Rattle.words.specs.Words.{pointer_of}
-use Rattle.words.specs.declared.Piece.{Piece}
 
--- ---- ends
+-- ---- ends, as `position` finds them in what is left of the text
 
-module _ (s : List ℕ) (at i : ℕ) (e : blanks_end s at ≡ blanks_end s i) where
-  pub blanks_more : i < length s → get_or s i 0 ≡ 32 → blanks_end s at ≡ blanks_end s (i + 1)
-  unfolding blanks_end blank_count
-  blanks_more h d = e ∙ (let q : blank_count (drop i s) ≡ suc (blank_count (drop (i + 1) s)) = rw (add-one, drop-cons s i 0, eq-eqb _ _ d) in omega arith)
+-- what it answers, or the end where it finds nothing
+pub found_is : {X : Type 0} (test : X → Bool) (xs : List X) (n : ℕ) (r : Option ℕ) → n ≡ length xs
+    → r ≡ cond (ltb (position_or_len test xs) (length xs)) (Some (position_or_len test xs)) None → unwrap_or r n ≡ position_or_len test xs
+found_is test xs n r h e =
+    bool_case (ltb (position_or_len test xs) (length xs))
+    (λ l. rw (e, l))
+    (λ l. rw (e, l) (omega (arith, ltb-false (position_or_len test xs) (length xs) l, prefix_len-le-length (λ x. not (test x)) xs)))
 
-  pub blanks_stop : i < length s → (get_or s i 0 ≡ 32 → ⊥) → i ≡ blanks_end s at
-  unfolding blanks_end blank_count
-  blanks_stop h d = sym (e ∙ (let q : blank_count (drop i s) ≡ 0 = rw (drop-cons s i 0, ne_eqb _ _ d) in omega arith))
+blank_place : (s : List ℕ) → blank_count s ≡ position_or_len (λ c. not (eqb c 32)) s
+unfolding blank_count
+blank_place s = is_position_or_len blank_count (λ c. not (eqb c 32)) refl (λ c cs. bool_case (eqb c 32) (λ e. rw (e, one-add)) (λ e. rw e)) s
 
-  pub blanks_last : length s ≤ i → i ≡ blanks_end s at
-  unfolding blanks_end blank_count
-  blanks_last h = sym (e ∙ (let q : blank_count (drop i s) ≡ 0 = rw (drop_of_length-le s h) in omega arith))
+byte_place : (b : ℕ) (s : List ℕ) → length (up_to b s) ≡ position_or_len (λ c. eqb c b) s
+unfolding up_to
+byte_place b s = is_position_or_len (λ t. length (up_to b t)) (λ c. eqb c b) refl (λ c cs. bool_case (eqb c b) (λ e. rw e) (λ e. rw (e, one-add))) s
 
-module _ (b : ℕ) (s : List ℕ) (at i : ℕ) (e : end_of b s at ≡ end_of b s i) where
-  pub end_more : i < length s → (get_or s i 0 ≡ b → ⊥) → end_of b s at ≡ end_of b s (i + 1)
-  unfolding end_of up_to
-  end_more h d = e ∙ (let q : length (up_to b (drop i s)) ≡ suc (length (up_to b (drop (i + 1) s))) = rw (add-one, drop-cons s i 0, ne_eqb _ _ d) in omega arith)
+module _ (s : List ℕ) (at n : ℕ) where
+  pub blanks_at : n ≡ position_or_len (λ c. not (eqb c 32)) (drop at s) → at + n ≡ blanks_end s at
+  unfolding blanks_end
+  blanks_at e = rw (e, blank_place (drop at s))
 
-  pub end_stop : i < length s → get_or s i 0 ≡ b → i ≡ end_of b s at
-  unfolding end_of up_to
-  end_stop h d = sym (e ∙ (let q : length (up_to b (drop i s)) ≡ 0 = rw (drop-cons s i 0, eq-eqb _ _ d) in omega arith))
-
-  pub end_last : length s ≤ i → i ≡ end_of b s at
-  unfolding end_of up_to
-  end_last h = sym (e ∙ (let q : length (up_to b (drop i s)) ≡ 0 = rw (drop_of_length-le s h) in omega arith))
+  pub byte_at : (b : ℕ) → n ≡ position_or_len (λ c. eqb c b) (drop at s) → at + n ≡ end_of b s at
+  unfolding end_of
+  byte_at b e = rw (e, byte_place b (drop at s))
 
 -- a slice from a place on to its end
 pub rest_is : (s : List ℕ) (i : ℕ) → take (length s - i) (drop i s) ≡ drop i s
@@ -52,16 +44,3 @@ rest_is s i = take_all (length s - i) (drop i s) (simp length-drop (omega arith)
 pub blanks_front : (s : List ℕ) → blanks_end s 0 ≡ blank_count s
 unfolding blanks_end
 blanks_front s = zero-add (blank_count s)
-
-pub ruleset end_laws = (rules, blanks_more, blanks_stop, blanks_last, end_more, end_stop, end_last)
-
--- ---- a piece as a string
-
-module _ (w : Piece) where
-  pub pointer_turned : (p : StrPtr) → p ≡ pointer w.from 0 0 → w.to < w.from → p ≡ pointer_of w
-  unfolding pointer_of
-  pointer_turned p e h = let z : w.to - w.from ≡ 0 = omega arith in e ∙ rw z
-
-  pub pointer_is : (p : StrPtr) → p ≡ pointer w.from (w.to - w.from) (w.to - w.from) → p ≡ pointer_of w
-  unfolding pointer_of
-  pointer_is p e = e

@@ -2,7 +2,7 @@
 // text's end.
 #![tactic(auto)]
 
-ghost use Rattle.std.specs.Prelude.{◌≡◌};
+ghost use Rattle.std.specs.Prelude.{◌≡◌, drop};
 ghost use Rattle.words.specs.Lines.{next_line};
 ghost use Rattle.words.specs.Words.{same, pointer_of, next_word};
 ghost use Rattle.words.specs.Alike.{common};
@@ -25,10 +25,7 @@ impl Piece {
     pub fn pointer(self) -> StrPtr
         ensures { result ≡ pointer_of self }
     {
-        if self.to < self.from {
-            return StrPtr::full(self.from, 0);
-        }
-        StrPtr::full(self.from, self.to - self.from)
+        StrPtr::full(self.from, self.to.saturating_sub(self.from))
     }
 }
 
@@ -36,53 +33,38 @@ impl Piece {
 pub fn alike(a: &[u8], b: &[u8]) -> usize
     ensures { result ≡ common a.now b.now }
 {
-    let mut i = 0;
-    while i < a.len() {
-        if b.len() <= i {
-            return i;
-        }
-        if a[i] != b[i] {
-            return i;
-        }
-        i += 1;
-    }
-    i
+    let differ = a.iter().zip(b).position(|(x, y)| x != y);
+    differ.unwrap_or(a.len().min(b.len()))
 }
 
 // Whether two texts are the same, byte by byte.
 pub fn are_same(a: &[u8], b: &[u8]) -> bool
     ensures { result ≡ same a.now b.now }
 {
-    let n = alike(a, b);
-    strlib::both(a.len() <= n, b.len() <= n)
+    a == b
+}
+
+// The text from `at` on.
+fn rest(text: &[u8], at: usize) -> &[u8]
+    ensures { result.now ≡ drop at text.now }
+{
+    &text[at.min(text.len())..]
 }
 
 // The first place from `at` on that has no blank.
 pub fn blanks_end(text: &[u8], at: usize) -> usize
     ensures { result ≡ blanks_end text.now at }
 {
-    let mut i = at;
-    while i < text.len() {
-        if text[i] != b' ' {
-            return i;
-        }
-        i += 1;
-    }
-    i
+    let left = rest(text, at);
+    at + left.iter().position(|c| *c != b' ').unwrap_or(left.len())
 }
 
 // The first place from `at` on that has the byte, or the end.
 fn byte_end(text: &[u8], at: usize, byte: u8) -> usize
     ensures { result ≡ end_of byte text.now at }
 {
-    let mut i = at;
-    while i < text.len() {
-        if text[i] == byte {
-            return i;
-        }
-        i += 1;
-    }
-    i
+    let left = rest(text, at);
+    at + left.iter().position(|c| *c == byte).unwrap_or(left.len())
 }
 
 // The first word from `at` on; an empty piece where there is none.
@@ -99,16 +81,6 @@ pub fn next_line(text: &[u8], at: usize) -> Piece
     ensures { result ≡ next_line text.now at }
 {
     let to = byte_end(text, at, LINE_END);
-    if to < text.len() {
-        return Piece {
-            from: at,
-            to,
-            next: to + 1,
-        };
-    }
-    Piece {
-        from: at,
-        to,
-        next: to,
-    }
+    let next = if to < text.len() { to + 1 } else { to };
+    Piece { from: at, to, next }
 }

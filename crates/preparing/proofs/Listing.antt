@@ -18,31 +18,6 @@ use Rattle.states.proofs.Numbering.{total_to_suc}
 use Rattle.states.specs.State.{total, total_to}
 use Rattle.preparing.specs.Listed.{listed, total_of}
 
-module _ (s : List ℕ) (list : List StrPtr) (n : ℕ) (few : n ≤ 32) (size : length list ≡ 32) where
-  pub listed_length : length (listed s list n) ≡ n
-  listed_length = texts_long s (take n list) ∙ simp length-take (omega arith)
-
-  pub listed_at : (k : ℕ) (d : StrPtr) → k < n → get_or (listed s list n) k [] ≡ text_of s (get_or list k d)
-  listed_at k d h = listed_text s (take n list) k d (simp length-take (omega arith)) ∙ ap (text_of s) (get_or-take n list k d h)
-
-  pub listed_cons : (k : ℕ) (d : StrPtr) → k < n → drop k (listed s list n) ≡ text_of s (get_or list k d) ∷ drop (k + 1) (listed s list n)
-  listed_cons k d h = rw (add-one, drop-cons (listed s list n) k [] (omega (arith, listed_length)), listed_at k d h)
-
-  pub listed_end : (k : ℕ) → n ≤ k → drop k (listed s list n) ≡ []
-  listed_end k h = let l : length (listed s list n) ≤ k = omega (arith, listed_length) in drop_of_length-le (listed s list n) l
-
-  pub listed_take : (m : ℕ) → m ≤ n → take m (listed s list n) ≡ listed s list m
-  listed_take m h = texts_take s (take n list) m ∙ ap (texts s) (take-take m n list h)
-
-  -- the characters of one string, and those before the next one
-  module _ (k : ℕ) (x : List ℕ) (d : StrPtr) (h : k < n) (p : x ≡ text_of s (get_or list k d)) where
-    pub listed_is : get_or (listed s list n) k [] ≡ x
-    listed_is = listed_at k d h ∙ sym p
-
-    pub listed_next : total_to (listed s list n) (suc k) ≡ total_to (listed s list n) k + length x
-    listed_next =
-        total_to_suc (listed s list n) k (omega (arith, listed_length)) ∙ ap (λ (t : List ℕ). total_to (listed s list n) k + length t) listed_is
-
 text_le : (s : List ℕ) (p : StrPtr) → length (text_of s p) ≤ length s
 unfolding text_of
 text_le s p = simp (length-take, length-drop) (omega arith)
@@ -59,6 +34,11 @@ module _ (s : List ℕ) (ps : List StrPtr) where
   unfolding total_of store_fits
   total_over h = ⊎_elim (λ a. rw (lt-leb (length s) 65536 a)) (λ b. rw (le-leb (length s) 65536 b.0, lt-leb (length ps) 32 b.1)) h
 
+  pub total_all : length s ≤ 65536 → length ps ≤ 32 → total_of s ps (length ps) ≡ total (texts s ps)
+  total_all room few =
+      let p : texts s (take (length ps) ps) ≡ texts s ps = rw (take_all (length ps) ps (omega arith)) in
+      total_is s ps (length ps) room few ∙ rw p
+
   -- `sum` are those of the first i strings
   module _ (i sum : ℕ) (e : sum + total (texts s (drop i ps)) ≡ total (texts s ps)) where
     pub total_done : length ps ≤ i → length s ≤ 65536 → length ps ≤ 32 → sum ≡ total_of s ps (length ps)
@@ -66,8 +46,7 @@ module _ (s : List ℕ) (ps : List StrPtr) where
     total_done h room few =
         let z : total (texts s (drop i ps)) ≡ 0 = rw (drop_all i ps h) in
         let q : sum ≡ total (texts s ps) = omega arith in
-        let p : texts s (take (length ps) ps) ≡ texts s ps = rw (take_all (length ps) ps (omega arith)) in
-        q ∙ sym (total_is s ps (length ps) room few ∙ rw p)
+        q ∙ sym (total_all room few)
 
     pub total_step : (d : StrPtr) (x : List ℕ) → i < length ps → x ≡ text_of s (get_or ps i d) → (sum + length x) + total (texts s (drop (i + 1) ps)) ≡ total (texts s ps)
     unfolding texts
@@ -81,16 +60,9 @@ text_small s p x room q = omega (arith, text_le s p, ap length q)
 
 -- ---- the length of a string by its number
 
-pub length_some : (s : List ℕ) (list : List StrPtr) (k : ℕ) (x : List ℕ) (d : StrPtr) → (k ≡ 0 → ⊥) → k ≤ 32 → length list ≡ 32 → x ≡ text_of s (get_or list (k - 1) d) → length x ≡ length_of (texts s list) k
-length_some s list zero x d z h l e = absurd (z refl)
-length_some s list (suc k) x d z h l e =
+pub length_some : (s : List ℕ) (ps : List StrPtr) (j : ℕ) (x : List ℕ) (d : StrPtr) → (j ≡ 0 → ⊥) → j ≤ length ps → x ≡ text_of s (get_or ps (j - 1) d) → length x ≡ length_of (texts s ps) j
+length_some s ps zero x d z h e = absurd (z refl)
+length_some s ps (suc k) x d z h e =
     let y : suc k - 1 ≡ k = omega arith in
-    let g : x ≡ text_of s (get_or list k d) = e ∙ ap (λ (i : ℕ). text_of s (get_or list i d)) y in
-    ap length (g ∙ sym (listed_text s list k d (omega arith)))
-
-pub length_listed : (s : List ℕ) (list : List StrPtr) (n k : ℕ) → k ≤ n → length_of (listed s list n) k ≡ length_of (texts s list) k
-length_listed s list n zero h = refl
-length_listed s list n (suc k) h =
-    ap (λ (l : List (List ℕ)). length (get_or l k [])) (sym (texts_take s list n)) ∙ ap length (get_or-take n (texts s list) k [] (omega arith))
-
-pub ruleset length_laws = (rules, length_some)
+    let g : x ≡ text_of s (get_or ps k d) = e ∙ ap (λ (i : ℕ). text_of s (get_or ps i d)) y in
+    ap length (g ∙ sym (listed_text s ps k d (omega arith)))

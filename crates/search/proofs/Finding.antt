@@ -47,6 +47,16 @@ closed_under (s ∷ ss) w = go (is_prefix s w) (closed ss w) (closed_under ss w)
 pub closed_at : (s : List ℕ) (ps : List StrPtr) (w : List ℕ) (k : ℕ) → suc k ≡ closed (texts s ps) w → k < length ps
 closed_at s ps w k e = omega (arith, closed_under (texts s ps) w, texts_long s ps)
 
+-- the strings tried one by one
+pub none_closed : (ss : List (List ℕ)) (w : List ℕ) → ((k : ℕ) → k < length ss → is_prefix (get_or ss k []) w ≡ false) → closed ss w ≡ 0
+none_closed [] w f = refl
+none_closed (s ∷ ss) w f = rw (f 0 (omega arith), none_closed ss w (λ k h. f (suc k) (omega arith)))
+
+pub first_closed : (ss : List (List ℕ)) (w : List ℕ) (k : ℕ) → k < length ss → is_prefix (get_or ss k []) w ≡ true → ((i : ℕ) → i < k → is_prefix (get_or ss i []) w ≡ false) → closed ss w ≡ suc k
+first_closed [] w k h e f = absurd (omega arith)
+first_closed (s ∷ ss) w zero h e f = rw e
+first_closed (s ∷ ss) w (suc k) h e f = rw (f 0 (omega arith), first_closed ss w k (omega arith) e (λ i l. f (suc i) (omega arith)))
+
 -- ---- the positions passed
 
 -- a result in a host with p characters more in front

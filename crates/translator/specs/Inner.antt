@@ -1,20 +1,18 @@
 -- What the functions inside the crate ask of one another. Assumes nothing.
 use Rattle.std.specs.Prelude.{ℕ, ◌+◌, ◌*◌, ◌≤◌, ◌<◌, ◌≡◌, true, List, length, take, drop}
 use Rattle.strlib.specs.Pointer.{all, characters}
-use Rattle.strlib.specs.declared.StrPtr.{StrPtr}
 use Rattle.search.specs.Search.{closed}
 use Rattle.states.specs.Node.{at, reach}
 use Rattle.states.specs.State.{total, state_of, IsNode, RowAt}
 use Rattle.states.specs.Fill.{Default, Short, Levels, Kept}
-use Rattle.preparing.specs.Listed.{listed}
 
--- a list that was not refused, and words for all its states
-pub record Ready (s : List ℕ) (list : List StrPtr) (count : ℕ) (ws : List ℕ) : Type 0 where
-  pub few : count ≤ 32
+-- the strings of a list that was not refused, and words for all their states
+pub record Ready (s : List ℕ) (ss : List (List ℕ)) (ws : List ℕ) : Type 0 where
+  pub few : length ss ≤ 32
   pub room : length s ≤ 65536
-  pub plain : all characters (listed s list count) ≡ true
-  pub small : total (listed s list count) ≤ 240
-  pub long : 1 + 130 * (total (listed s list count) + 2) ≤ length ws
+  pub plain : all characters ss ≡ true
+  pub small : total ss ≤ 240
+  pub long : 1 + 130 * (total ss + 2) ≤ length ws
 
 -- row q has the default of u, and string `closing` closes u
 pub record Open (ss : List (List ℕ)) (ws u : List ℕ) (q closing : ℕ) : Type 0 where

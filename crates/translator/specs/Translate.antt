@@ -7,8 +7,6 @@ use Rattle.search.specs.Search.{Result, plain_search}
 use Rattle.table.specs.Run.{size_of, run_rule}
 use Rattle.states.specs.Sure.{Sure}
 use Rattle.preparing.specs.Listed.{listed, translate_refusal}
-use Rattle.translator.specs.declared.TranslateAnswer.{TranslateAnswer}
-use Rattle.translator.specs.declared.TranslateAnswer.TheVariants.{Done, Refused}
 
 -- a host that a run does not refuse by itself
 pub record Host (s : List ℕ) (host : StrPtr) : Type 0 where
@@ -42,8 +40,3 @@ Words (suc k) ss old new = new ≡ old
 pub record Translated (s : List ℕ) (list : List StrPtr) (count : ℕ) (old : List ℕ) (answer : Outcome (Unit {0})) (new : List ℕ) : Type 0 where
   pub answered : answer ≡ outcome (translate_refusal s list count (length old)) tt
   pub words : Words (translate_refusal s list count (length old)) (listed s list count) old new
-
--- the paper's value for each case of the answer
-abbrev pub translate_answered : TranslateAnswer → Outcome (Unit {0})
-translate_answered Done = gives tt
-translate_answered (Refused n) = refused n

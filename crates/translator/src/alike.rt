@@ -1,40 +1,29 @@
 // How many characters each two listed strings begin alike with. It is found once: a row then compares its text with a
 // string by numbers, and time does not grow with the square of a string's length.
-ghost use Rattle.std.specs.Prelude.{◌≡◌, ◌+◌, ◌≤◌, length};
-ghost use Rattle.preparing.specs.Listed.{listed};
-ghost use Rattle.translator.specs.Common.{NumbersPut, Alike};
+ghost use Rattle.std.specs.Prelude.{◌≡◌, ◌≤◌, length};
+ghost use Rattle.strlib.specs.Pointer.{texts};
+ghost use Rattle.translator.specs.Common.{Alike, AlikeTo};
 
-use strlib::{StrList, StrPtr};
+use strlib::StrPtr;
 
-// The numbers of x, from base on.
-fn put_numbers(
-    store: &[u8],
-    list: StrList,
-    count: usize,
-    x: &[u8],
-    base: usize,
-    alike: &mut [usize],
-)
-    requires { (count ≤ 32) × (base + 32 ≤ length alike.old) }
-    ensures { NumbersPut (listed store.now list count) alike.old alike.new base count x.now }
+pub(super) type Numbers = [usize; StrPtr::LIST_MAX];
+
+// The numbers of x.
+fn put_numbers(store: &[u8], strings: &[StrPtr], x: &[u8], numbers: &mut Numbers)
+    requires { length strings.now ≤ 32 }
+    ensures { AlikeTo (texts store.now strings.now) numbers.new x.now }
 {
-    let mut k = 0;
-    while k < count {
-        let y = strlib::text(store, list[k]);
-        alike[base + k] = words::alike(y, x);
-        k += 1;
+    for (k, p) in strings.iter().enumerate() {
+        numbers[k] = words::alike(strlib::text(store, *p), x);
     }
 }
 
 // The numbers of every string.
-pub(super) fn fill_alike(store: &[u8], list: StrList, count: usize, alike: &mut [usize])
-    requires { (count ≤ 32) × (length alike.old ≡ 1024) }
-    ensures { Alike (listed store.now list count) alike.new count }
+pub(super) fn fill_alike(store: &[u8], strings: &[StrPtr], alike: &mut [Numbers; StrPtr::LIST_MAX])
+    requires { length strings.now ≤ 32 }
+    ensures { Alike (texts store.now strings.now) alike.new }
 {
-    let mut j = 0;
-    while j < count {
-        let x = strlib::text(store, list[j]);
-        put_numbers(store, list, count, x, StrPtr::LIST_MAX * j, alike);
-        j += 1;
+    for (j, p) in strings.iter().enumerate() {
+        put_numbers(store, strings, strlib::text(store, *p), &mut alike[j]);
     }
 }

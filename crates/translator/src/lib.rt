@@ -9,97 +9,60 @@ ghost use Rattle.std.specs.Prelude.{◌≡◌, true, [], ◌+◌, ◌*◌, ◌�
 ghost use Rattle.strlib.specs.Pointer.{texts, all, characters};
 ghost use Rattle.search.specs.Search.{closed, length_of};
 ghost use Rattle.states.specs.State.{total};
-ghost use Rattle.states.specs.Fill.{word_or_stop, Filled, Copied, Flat, Defaulted, Put, Children, NotePut, Rowed};
-ghost use Rattle.preparing.specs.Listed.{listed};
+ghost use Rattle.states.specs.Fill.{word_or_stop, Copied, Flat, Defaulted, Put, Children, NotePut, Rowed};
 ghost use Rattle.translator.specs.Inner.{Ready, Open, Next};
 ghost use Rattle.translator.specs.Common.{Tells, TellsAll};
 
+use alike::Numbers;
 pub use levels::translate;
-use strlib::StrList;
+use strlib::StrPtr;
 use table::{LENGTH_WORD, STATE_WORDS, STRING_WORD};
-
-#[derive(Clone, Copy)]
-pub enum TranslateAnswer {
-    Done,
-    Refused(u8),
-}
-
-// A character as the index of its word.
-fn code(c: u8) -> usize
-    ensures { result ≡ c }
-{
-    c as usize
-}
-
-fn narrow(x: usize) -> u16
-    requires { x ≤ 65535 }
-    ensures { result ≡ x }
-{
-    x as u16
-}
 
 // ---- the strings
 
 // The number of the first listed string that u begins with, 0 for none. `alike` has the numbers of the string that u is
 // cut from.
-fn closed_by(store: &[u8], list: StrList, count: usize, u: &[u8], alike: &[usize]) -> usize
-    requires { (count ≤ 32) × TellsAll alike.now u.now (listed store.now list count) }
-    ensures { result ≡ closed (listed store.now list count) u.now }
+fn closed_by(store: &[u8], strings: &[StrPtr], u: &[u8], alike: &Numbers) -> usize
+    requires { (length strings.now ≤ 32) × TellsAll alike.now u.now (texts store.now strings.now) }
+    ensures { result ≡ closed (texts store.now strings.now) u.now }
 {
-    let mut i = 0;
-    while i < count {
-        let x = strlib::text(store, list[i]);
-        if strlib::both(x.len() <= u.len(), x.len() <= alike[i]) {
+    for (i, p) in strings.iter().enumerate() {
+        let n = strlib::text(store, *p).len();
+        if n <= u.len() && n <= alike[i] {
             return i + 1;
         }
-        i += 1;
     }
     0
 }
 
 // The length of string number j, 0 for none.
-fn length_of(store: &[u8], list: StrList, j: usize) -> usize
-    requires { j ≤ 32 }
-    ensures { result ≡ length_of (texts store.now list) j }
+fn length_of(store: &[u8], strings: &[StrPtr], j: usize) -> usize
+    requires { j ≤ length strings.now }
+    ensures { result ≡ length_of (texts store.now strings.now) j }
 {
     if j == 0 {
         return 0;
     }
-    let x = strlib::text(store, list[j - 1]);
-    x.len()
+    strlib::text(store, strings[j - 1]).len()
 }
 
 // ---- the words of a row
-
-// n words from base on are v.
-fn fill(table: &mut [u16], base: usize, n: usize, v: u16)
-    requires { base + n ≤ length table.old }
-    ensures { Filled table.old table.new base n v }
-{
-    let mut i = 0;
-    while i < n {
-        table[base + i] = v;
-        i += 1;
-    }
-}
 
 fn flat_row(table: &mut [u16], q: usize, v: u16)
     requires { 1 + 130 * q + 130 ≤ length table.old }
     ensures { Flat table.old table.new q v }
 {
-    fill(table, 1 + STATE_WORDS * q, STRING_WORD, v);
-    fill(table, 1 + STATE_WORDS * q + STRING_WORD, 2, 0);
+    let base = 1 + STATE_WORDS * q;
+    table[base..base + STRING_WORD].fill(v);
+    table[base + STRING_WORD..base + STATE_WORDS].fill(0);
 }
 
 fn copy_row(table: &mut [u16], from: usize, q: usize)
     requires { (1 + 130 * q + 130 ≤ length table.old) × (1 + 130 * from + 130 ≤ length table.old) }
     ensures { Copied table.old table.new from q 130 }
 {
-    let mut i = 0;
-    while i < STATE_WORDS {
-        table[1 + STATE_WORDS * q + i] = table[1 + STATE_WORDS * from + i];
-        i += 1;
-    }
+    let row = 1 + STATE_WORDS * from;
+    table.copy_within(row..row + STATE_WORDS, 1 + STATE_WORDS * q);
 }
 
 // The row of state `from` for state q; state 0 has none.
@@ -125,32 +88,27 @@ fn put_child(table: &mut [u16], base: usize, x: &[u8], u: &[u8], alike: usize, v
         return;
     }
     if l <= alike {
-        let c = code(x[l]);
-        table[base + c] = v;
+        table[base + x[l] as usize] = v;
     }
 }
 
-// The first m strings that go on past u, from the last to the first, so that the first one stays.
+// The strings that go on past u, from the last to the first, so that the first one stays.
 fn put_children(
     store: &[u8],
-    list: StrList,
-    m: usize,
+    strings: &[StrPtr],
     u: &[u8],
-    alike: &[usize],
+    alike: &Numbers,
     base: usize,
     table: &mut [u16],
 )
-    requires { (m ≤ 32) × (length store.now ≤ 65536) × (all characters (listed store.now list m) ≡ true) × (total (listed store.now list m) ≤ 240) × (length u.now ≤ 240) × (base + 128 ≤ length table.old) × TellsAll alike.now u.now (listed store.now list m) }
-    ensures { Children table.old table.new base u.now (listed store.now list m) 0 }
+    requires { (length strings.now ≤ 32) × (length store.now ≤ 65536) × (all characters (texts store.now strings.now) ≡ true) × (total (texts store.now strings.now) ≤ 240) × (length u.now ≤ 240) × (base + 128 ≤ length table.old) × TellsAll alike.now u.now (texts store.now strings.now) }
+    ensures { Children table.old table.new base u.now (texts store.now strings.now) 0 }
 {
-    let l = u.len();
-    let mut at = preparing::total_of(store, list, m);
-    let mut k = m;
-    while 0 < k {
-        k -= 1;
-        let x = strlib::text(store, list[k]);
+    let mut at = preparing::total_of(store, strings);
+    for k in (0..strings.len()).rev() {
+        let x = strlib::text(store, strings[k]);
         at -= x.len();
-        put_child(table, base, x, u, alike[k], narrow(at + l + 2));
+        put_child(table, base, x, u, alike[k], (at + u.len() + 2) as u16);
     }
 }
 
@@ -163,8 +121,8 @@ fn put_note(table: &mut [u16], q: usize, closing: usize, n: usize, l: usize)
         return;
     }
     if n == l {
-        table[1 + STATE_WORDS * q + STRING_WORD] = narrow(closing);
-        table[1 + STATE_WORDS * q + LENGTH_WORD] = narrow(l);
+        table[1 + STATE_WORDS * q + STRING_WORD] = closing as u16;
+        table[1 + STATE_WORDS * q + LENGTH_WORD] = l as u16;
     }
 }
 
@@ -173,52 +131,49 @@ fn put_note(table: &mut [u16], q: usize, closing: usize, n: usize, l: usize)
 // The row of u, which has its default.
 fn finish_row(
     store: &[u8],
-    list: StrList,
-    count: usize,
+    strings: &[StrPtr],
     u: &[u8],
-    alike: &[usize],
+    alike: &Numbers,
     closing: usize,
     q: usize,
     table: &mut [u16],
 )
-    requires { Ready store.now list count table.old × Open (listed store.now list count) table.old u.now q closing × TellsAll alike.now u.now (listed store.now list count) }
-    ensures { Rowed (listed store.now list count) table.old table.new q u.now }
+    requires { Ready store.now (texts store.now strings.now) table.old × Open (texts store.now strings.now) table.old u.now q closing × TellsAll alike.now u.now (texts store.now strings.now) }
+    ensures { Rowed (texts store.now strings.now) table.old table.new q u.now }
 {
-    let m = preparing::limit_of(closing, count);
-    let n = length_of(store, list, closing);
-    put_children(store, list, m, u, alike, 1 + STATE_WORDS * q, table);
+    let m = preparing::limit_of(closing, strings.len());
+    let n = length_of(store, strings, closing);
+    put_children(store, &strings[..m], u, alike, 1 + STATE_WORDS * q, table);
     put_note(table, q, closing, n, u.len());
 }
 
 // The row of the start, whose text is empty: any numbers tell what begins with it.
-fn root_row(store: &[u8], list: StrList, count: usize, alike: &[usize], table: &mut [u16])
-    requires { Ready store.now list count table.old × (32 ≤ length alike.now) }
-    ensures { Rowed (listed store.now list count) table.old table.new 1 [] }
+fn root_row(store: &[u8], strings: &[StrPtr], alike: &Numbers, table: &mut [u16])
+    requires { Ready store.now (texts store.now strings.now) table.old }
+    ensures { Rowed (texts store.now strings.now) table.old table.new 1 [] }
 {
-    let u = &store[..0];
-    let closing = closed_by(store, list, count, u, alike);
-    flat_row(table, 1, preparing::root_to(count, closing));
-    finish_row(store, list, count, u, alike, closing, 1, table);
+    let closing = closed_by(store, strings, &[], alike);
+    flat_row(table, 1, preparing::root_to(strings.len(), closing));
+    finish_row(store, strings, &[], alike, closing, 1, table);
 }
 
 // The row of u, whose tail's state is `fail`.
 fn fill_row(
     store: &[u8],
-    list: StrList,
-    count: usize,
+    strings: &[StrPtr],
     u: &[u8],
-    alike: &[usize],
+    alike: &Numbers,
     q: usize,
     fail: usize,
     table: &mut [u16],
 )
-    requires { Ready store.now list count table.old × Next (listed store.now list count) table.old u.now q fail × TellsAll alike.now u.now (listed store.now list count) }
-    ensures { Rowed (listed store.now list count) table.old table.new q u.now }
+    requires { Ready store.now (texts store.now strings.now) table.old × Next (texts store.now strings.now) table.old u.now q fail × TellsAll alike.now u.now (texts store.now strings.now) }
+    ensures { Rowed (texts store.now strings.now) table.old table.new q u.now }
 {
-    let closing = closed_by(store, list, count, u, alike);
+    let closing = closed_by(store, strings, u, alike);
     let from = preparing::if_open(closing, fail);
     default_row(table, q, from);
-    finish_row(store, list, count, u, alike, closing, q, table);
+    finish_row(store, strings, u, alike, closing, q, table);
 }
 
 fn row_word(table: &[u16], q: usize, c: usize) -> usize
@@ -239,5 +194,5 @@ fn next_fail(table: &[u16], x: &[u8], l: usize, fail: usize) -> usize
     if x.len() <= l {
         return 0;
     }
-    row_word(table, fail, code(x[l]))
+    row_word(table, fail, x[l] as usize)
 }

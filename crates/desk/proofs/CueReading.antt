@@ -16,14 +16,14 @@ use Rattle.number.specs.Number.{of_text, read_rule}
 use Rattle.strlib.proofs.Refusing.{bool_case, numbered, first_is, first_other, first_before, first_behind, passed, outcome_no, outcome_yes}
 use Rattle.strlib.proofs.Texts.{part_readable}
 use Rattle.strlib.specs.Pointer.{store_fits, characters}
-use Rattle.strlib.specs.Refusal.{Outcome, refused, gives, first, also, outcome}
+use Rattle.strlib.specs.Refusal.{Outcome, refused, gives, first, outcome}
 use Rattle.strlib.specs.declared.StrPtr.{StrPtr}
 use Rattle.words.proofs.Wording.{word_no, words_good}
 use Rattle.words.specs.Words.{words, first_words}
 use Rattle.desk.specs.declared.cue.Cue.{Cue}
 use Rattle.desk.specs.Cue.{wrong_word, formed, is_size, mic_word, lsp_word, gain_word, line_checks, matrix_checks, number_checks, word_checks, cue_of}
 use Rattle.desk.specs.Cue.{cue_refusal, cue_rule, cue_word, cue_word_rule}
-use Rattle.desk.specs.CueInner.{refused_word, line_refusal, wordless, in_matrix, in_order}
+use Rattle.desk.specs.CueInner.{line_refusal, formless, in_matrix}
 
 -- ---- the checks before the words
 
@@ -31,14 +31,7 @@ pub size_in : (most n : ℕ) (b : Bool) → b ≡ (leb 1 n && leb n most) → b 
 unfolding is_size
 size_in most n b e = e
 
-pub line_checked : (s : List ℕ) (mics lsps found₁ : ℕ) → found₁ ≡ also 0 3 (store_fits s) → (a : Bool) → a ≡ is_size 64 mics
-    → (found₂ : ℕ) → found₂ ≡ also found₁ 3 a → (b : Bool) → b ≡ is_size 128 lsps → (found₃ : ℕ) → found₃ ≡ also found₂ 3 b
-    → (found₄ : ℕ) → found₄ ≡ also found₃ 2 (characters s) → (found₅ : ℕ) → found₅ ≡ also found₄ 11 (leb (length s) 80) → found₅ ≡ line_refusal s mics lsps
-unfolding line_refusal
-line_checked s mics lsps found₁ e₁ a p found₂ e₂ b q found₃ e₃ found₄ e₄ found₅ e₅ =
-    first_is (line_checks s mics lsps) refl found₅ (rw (e₅, e₄, e₃, e₂, e₁, p, q))
-
-pub ruleset line_laws = (rules, size_in, line_checked)
+pub ruleset line_laws = (rules, size_in)
 
 -- what a line has that passes them
 pub record LinePassed (s : List ℕ) : Type 0 where
@@ -64,12 +57,23 @@ stage cs ds h x y f on back = go (first cs) refl
         let n : suc k ≡ 0 → ⊥ = λ (z : suc k ≡ 0). omega arith in
         ap f (sym (outcome_no (suc k) (first cs) (sym e) x n)) ∙ on (suc k) ∙ outcome_no (suc k) (first (cs ++ ds)) (first_before cs ds (suc k) (sym e) n) y n
 
+-- the refusals of three numbers from left to right, then the matrix
+abbrev pub in_order : ℕ → ℕ → Outcome ℤ → Outcome ℤ → Outcome ℤ → Outcome Cue
+in_order mics lsps (refused k) m g = refused k
+in_order mics lsps (gives n) (refused k) g = refused k
+in_order mics lsps (gives n) (gives m) (refused k) = refused k
+in_order mics lsps (gives n) (gives m) (gives g) = in_matrix mics lsps n m g
+
+-- an answer that comes without a word
+abbrev alone : Outcome Cue → Outcome Cue × ℕ
+alone o = (o, 0)
+
 abbrev read : List ℕ → Outcome ℤ
 read t = outcome (first (of_text 10 t)) (number_of 10 t)
 
 order_is : (mics lsps : ℕ) (a b c : List ℕ)
     → in_order mics lsps (read a) (read b) (read c) ≡ outcome (first (number_checks mics lsps a b c)) (cue_of (number_of 10 a) (number_of 10 b) (number_of 10 c))
-unfolding in_order in_matrix
+unfolding in_matrix
 order_is mics lsps a b c =
     let n : ℤ = number_of 10 a in
     let m : ℤ = number_of 10 b in
@@ -102,9 +106,9 @@ module _ (s : List ℕ) (mics lsps k : ℕ) (ek : k ≡ line_refusal s mics lsps
     unfolding cue_word
     no_word = rw (← early) (bool_case (eqb k 11) (λ t. rw (t, long (eqb-true k 11 t))) (λ f. rw f))
 
-    pub cue_line : (r : Outcome Cue × ℕ) → r ≡ refused_word k 0 → r ≡ cue_word_rule s mics lsps
+    pub cue_line : alone (refused k) ≡ cue_word_rule s mics lsps
     unfolding cue_rule
-    cue_line r e = e ∙ rw (← no_word) (ap wordless (outcome_no k (cue_refusal s mics lsps) early (cue s) h))
+    cue_line = rw (← no_word) (ap alone (outcome_no k (cue_refusal s mics lsps) early (cue s) h))
 
   module _ (z : k ≡ 0) (w : ℕ) (ew : w ≡ wrong_word s) where
     passes : LinePassed s
@@ -115,13 +119,13 @@ module _ (s : List ℕ) (mics lsps k : ℕ) (ek : k ≡ line_refusal s mics lsps
     unfolding cue_refusal line_refusal formed
     behind = first_behind (line_checks s mics lsps) (word_checks s mics lsps) refl (sym ek ∙ z) ∙ rw ew
 
-    pub cue_form : (o : Outcome Cue × ℕ) → (w ≡ 0 → ⊥) → o ≡ refused_word 11 w → o ≡ cue_word_rule s mics lsps
+    pub cue_form : (w ≡ 0 → ⊥) → ◌≡◌ {A = Outcome Cue × ℕ} (refused 11, w) (cue_word_rule s mics lsps)
     unfolding cue_rule cue_word
-    cue_form o f e =
+    cue_form f =
         let r : cue_refusal s mics lsps ≡ 11 = behind ∙ rw (ne_eqb w 0 f) in
         let a : refused 11 ≡ cue_rule s mics lsps = outcome_no 11 (cue_refusal s mics lsps) (sym r) (cue s) (λ (y : ◌≡◌ {A = ℕ} 11 0). omega arith) in
         let b : w ≡ cue_word s mics lsps = rw (r, passes.short) ew in
-        e ∙ rw (← a, ← b)
+        rw (← a, ← b)
 
     module _ (y : w ≡ 0) (l : List StrPtr) (el : l ≡ first_words 8 s 0) where
       number_is : (i : ℕ) → i < 8 → (d : StrPtr) → read_rule s (get_or l i d) 10 ≡ read (get_or (words s) i [])
@@ -134,7 +138,7 @@ module _ (s : List ℕ) (mics lsps k : ℕ) (ek : k ≡ line_refusal s mics lsps
       none = rw (passes.short, ← ew, y) (bool_case (eqb (cue_refusal s mics lsps) 11) (λ t. rw t) (λ f. rw f))
 
       pub cue_read : (dn dm dg : StrPtr) (n m g : Outcome ℤ) (r : Outcome Cue × ℕ) → n ≡ read_rule s (get_or l 1 dn) 10
-          → m ≡ read_rule s (get_or l 4 dm) 10 → g ≡ read_rule s (get_or l 6 dg) 10 → r ≡ wordless (in_order mics lsps n m g) → r ≡ cue_word_rule s mics lsps
+          → m ≡ read_rule s (get_or l 4 dm) 10 → g ≡ read_rule s (get_or l 6 dg) 10 → r ≡ alone (in_order mics lsps n m g) → r ≡ cue_word_rule s mics lsps
       unfolding cue_rule
       cue_read dn dm dg n m g r en em eg er =
           let o : in_order mics lsps n m g ≡ cue_rule s mics lsps =
@@ -142,4 +146,11 @@ module _ (s : List ℕ) (mics lsps k : ℕ) (ek : k ≡ line_refusal s mics lsps
           (order_is mics lsps (mic_word s) (lsp_word s) (gain_word s) ∙ ap (λ (x : ℕ). outcome x (cue s)) (sym (behind ∙ rw (eq-eqb w 0 y)))) in
           er ∙ rw (o, ← none)
 
-pub ruleset cue_laws = (rules, cue_line, cue_form, cue_read)
+-- what the words found
+pub form_none : (w : ℕ) → ◌≡◌ {A = ℕ × ℕ} (0, 0) (formless w) → w ≡ 0
+form_none zero e = refl
+form_none (suc w) e = let z : ◌≡◌ {A = ℕ} 0 11 = ap (λ (x : ℕ × ℕ). x.0) e in absurd (omega arith)
+
+pub form_some : (k v w : ℕ) → (k ≡ 0 → ⊥) → (k, v) ≡ formless w → (k ≡ 11) × ((v ≡ w) × (w ≡ 0 → ⊥))
+form_some k v zero h e = absurd (h (ap (λ (x : ℕ × ℕ). x.0) e))
+form_some k v (suc w) h e = (ap (λ (x : ℕ × ℕ). x.0) e, (ap (λ (x : ℕ × ℕ). x.1) e, λ z. omega arith))

@@ -1,7 +1,7 @@
 -- Laws of the words of a cue line: the loop puts them into a list one by one, and tested in their places they show the
 -- first that is wrong. Assumes nothing.
 use mathlib.Core.Path.{◌≡◌, refl, sym, ap, ◌∙◌}
-use mathlib.Core.Bool.{Bool, true, false}
+use mathlib.Core.Bool.{Bool, true, false, cond}
 use mathlib.Core.List.{List, [], ◌∷◌, ◌++◌, append_assoc, append-nil}
 use Prim.Native.Nat.{ℕ, suc, ◌+◌, ◌-◌, ◌≤◌, ◌<◌}
 use native.Mathlib.Numerals.{add-one}
@@ -11,16 +11,20 @@ use borrow.Author.Tests.{ltb-true, ltb-false, le-leb, lt-leb, eq-eqb, ne_eqb}
 use lib.Dec.{leb, eqb, ltb}
 use lib.ListN.{length, get_or, set, take, length-set}
 use lib.Seq.{take_all, take-suc-set}
+use Rattle.std.proofs.Common.{Result, Ok, Err}
+use Rattle.std.specs.Result.{IsErrAnd}
+use Rattle.strlib.proofs.Answering.{refusal_some}
 use Rattle.strlib.proofs.Pointing.{text_length}
-use Rattle.strlib.proofs.Refusing.{first_is}
 use Rattle.strlib.specs.Pointer.{pointer, text_of}
 use Rattle.strlib.specs.Quoted.{bytes}
-use Rattle.strlib.specs.Refusal.{also}
+use Rattle.strlib.specs.Refusal.{refusal_number}
 use Rattle.strlib.specs.declared.StrPtr.{StrPtr}
 use Rattle.words.proofs.Wording.{first_words_none, first_words_more, word_no, word_some, words_good}
 use Rattle.words.specs.Words.{words, same, pointer_of, next_word, first_words}
 use Rattle.words.specs.declared.Piece.{Piece}
-use Rattle.desk.specs.Cue.{formed_checks, wrong_word}
+use Rattle.desk.proofs.Refused.{err_is}
+use Rattle.desk.specs.CueInner.{fault_found, formless}
+use Rattle.desk.specs.declared.cue.CueFault.{CueFault}
 
 -- ---- the loop
 
@@ -69,11 +73,11 @@ module _ (s : List ℕ) where
     text_is : (k : ℕ) → k < 8 → (d : StrPtr) → text_of s (get_or l k d) ≡ get_or (words s) k []
     text_is k h d = rw e (word_no 8 s 0 k d h)
 
-    there_is : (k : ℕ) → k < 8 → (d : StrPtr) → leb 1 (get_or l k d).length ≡ leb 1 (length (get_or (words s) k []))
+    pub there_is : (k : ℕ) → k < 8 → (d : StrPtr) → leb 1 (get_or l k d).length ≡ leb 1 (length (get_or (words s) k []))
     there_is k h d = rw e (word_some 8 s 0 k d h) ∙ sym (word_there k h)
 
     -- no eighth word
-    none_is : (d : StrPtr) → eqb (get_or l 7 d).length 0 ≡ leb (length (words s)) 7
+    pub none_is : (d : StrPtr) → eqb (get_or l 7 d).length 0 ≡ leb (length (words s)) 7
     none_is d = go (get_or l 7 d).length (ltb 7 (length (words s))) refl (rw e (word_some 8 s 0 7 d (omega arith)))
       where
         go : (n : ℕ) (t : Bool) → ltb 7 (length (words s)) ≡ t → ltb 0 n ≡ ltb 7 (length (words s)) → eqb n 0 ≡ leb (length (words s)) 7
@@ -87,6 +91,13 @@ module _ (s : List ℕ) where
     -- the code's tests are the rule's
     pub fixed_is : (k : ℕ) → k < 8 → (d : StrPtr) (y : List ℕ) (t : Bool) → t ≡ same (text_of s (get_or l k d)) y → t ≡ same (get_or (words s) k []) y
     fixed_is k h d y t q = q ∙ rw (text_is k h d)
+
+-- a fault's number and word
+abbrev fault : CueFault → ℕ × ℕ
+fault f = (refusal_number f.refusal, f.word)
+
+pub word_stop : {A : Type 0} (r : Result A CueFault) (f : CueFault) → IsErrAnd r (λ x. x ≡ f) → (k : ℕ × ℕ) → fault f ≡ k → fault_found r ≡ k
+word_stop r f p k h = rw (err_is r f p) h
 
 -- one test, and those behind it
 pub word_here : (f : CueFault) (t b : Bool) (n k : ℕ) → fault f ≡ cond t (0, 0) (11, suc n) → t ≡ b → fault f ≡ formless (cond b k (suc n))
@@ -106,3 +117,5 @@ pub word_same : (s : List ℕ) (p : StrPtr) (t y : List ℕ) (b : Bool) → t �
 word_same s p t y b e f = rw (← e) f
 
 pub ruleset word_laws = (rules, word_same)
+
+pub ruleset form_laws = (rules, word_stop, word_here, word_next, word_last, fixed_is, there_is, none_is)

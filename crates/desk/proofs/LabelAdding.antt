@@ -10,6 +10,13 @@ use mir.Syntax.{w64}
 use mir.Val.{Fits}
 use borrow.Author.Rules.{rules}
 use borrow.Author.Tests.{leb-true, le-leb, lt-leb}
+use Rattle.std.proofs.Common.{Result, Ok, Err}
+use Rattle.std.specs.Result.{IsErrAnd, MatchResult}
+use Rattle.strlib.proofs.Answering.{refusal_some}
+use Rattle.strlib.specs.Refusal.{refusal_number, number_found}
+use Rattle.strlib.specs.declared.refusal.Refusal.{Refusal}
+use Rattle.records.specs.declared.Fault.{Fault}
+use Rattle.desk.proofs.Refused.{put_err, put_ok}
 use Rattle.strlib.specs.Store.{put}
 use Rattle.moving.proofs.Pasting.{pasted_in, pasted_length}
 use Rattle.moving.specs.Moving.{pasted}
@@ -17,15 +24,12 @@ use Rattle.records.proofs.Bytes.{label_length, fitted_is}
 use Rattle.records.proofs.Checking.{Writable, writable}
 use Rattle.records.proofs.Limits.{in_range_lem, earlier_none, earlier_found, earlier_zero}
 use Rattle.records.proofs.Placing.{good_offset}
-use Rattle.records.proofs.Telling.{ruled_at_no, ruled_at_yes}
+use Rattle.records.proofs.Telling.{told_no, told_yes, told_gave, told_is, ruled_at_no, ruled_at_yes}
 use Rattle.records.specs.Record.{record_size, earlier, list_refusal, fault_offset, new_refusal, label_bytes, fitted_bytes}
-use Rattle.records.specs.Told.{refused_at, tells}
-use Rattle.records.specs.declared.Fault.{Fault}
+use Rattle.records.specs.Told.{refused_at, tells, told, told_by}
 use Rattle.desk.proofs.LabelReading.{answered_good, answered_refused}
-use Rattle.desk.specs.Label.{read_labels_rule, label_counted, add_refusal, add_offset, add_rule}
-use Rattle.desk.specs.LabelInner.{add_fault}
-use Rattle.desk.specs.declared.label.read.LabelCount.{LabelCount}
-use Rattle.desk.specs.declared.label.read.LabelCount.TheVariants.{Records, Refused as Uncounted}
+use Rattle.desk.specs.Label.{read_labels_rule, add_refusal, add_offset, add_rule}
+use Rattle.desk.specs.LabelInner.{add_told}
 
 -- ---- the checks
 
@@ -33,32 +37,46 @@ pub front_length : (b : List ℕ) (n : ℕ) → n ≤ length b → n ≡ length 
 front_length b n h = rw length-take (omega arith)
 
 module _ (b : List ℕ) (n kind number : ℕ) (name : List ℕ) where
-  pub add_long : length b < n → ◌≡◌ {A = Fault} (record { refusal = 4; offset = n }) (add_fault b n kind number name)
-  unfolding add_fault add_refusal add_offset
+  pub add_long : length b < n → refused_at 4 n ≡ add_told b n kind number name
+  unfolding add_told add_refusal add_offset told
   add_long h = rw (lt-leb n (length b) h)
 
   module _ (h : n ≤ length b) where
     abbrev new : ℕ
     new = new_refusal (take n b) (length b - n) kind number name
 
-    pub fault_list : (list_refusal (take n b) ≡ 0 → ⊥)
-        → ◌≡◌ {A = Fault} (record { refusal = list_refusal (take n b); offset = fault_offset (take n b) }) (add_fault b n kind number name)
-    unfolding add_fault add_refusal add_offset
-    fault_list f = rw (le-leb n (length b) h, earlier_found (list_refusal (take n b)) new f)
+    -- what is left behind that
+    left : add_told b n kind number name ≡ told (earlier (list_refusal (take n b)) new) (fault_offset (take n b)) tt
+    unfolding add_told add_refusal add_offset
+    left = rw (le-leb n (length b) h)
 
-    pub fault_new : list_refusal (take n b) ≡ 0 → ◌≡◌ {A = Fault} (record { refusal = new; offset = length (take n b) }) (add_fault b n kind number name)
-    unfolding add_fault add_refusal add_offset
-    fault_new g = rw (le-leb n (length b) h, earlier_zero (list_refusal (take n b)) new g, good_offset (take n b) g)
+    pub fault_list : (list_refusal (take n b) ≡ 0 → ⊥) → refused_at (list_refusal (take n b)) (fault_offset (take n b)) ≡ add_told b n kind number name
+    fault_list f =
+        told_no (list_refusal (take n b)) _ (sym (earlier_found (list_refusal (take n b)) new f)) (fault_offset (take n b)) (fault_offset (take n b)) tt refl f ∙ sym left
 
-    module _ (a : LabelCount) (e : label_counted a ≡ read_labels_rule (take n b)) where
-      pub add_list : (f : Fault) → a ≡ Uncounted f → f ≡ add_fault b n kind number name
-      add_list f q = let g = answered_refused (take n b) a e f q in rw (← g.0, ← g.1.0) at (fault_list (λ z. g.1.1 (g.0 ∙ z)))
+    good : list_refusal (take n b) ≡ 0 → add_told b n kind number name ≡ told new (length (take n b)) tt
+    good g = left ∙ rw (earlier_zero (list_refusal (take n b)) new g, good_offset (take n b) g)
 
-      pub add_new : (m k : ℕ) → a ≡ Records m → k ≡ new_refusal (take n b) (length b - n) kind number name
-          → ◌≡◌ {A = Fault} (record { refusal = k; offset = length (take n b) }) (add_fault b n kind number name)
-      add_new m k q f = rw f (fault_new (answered_good (take n b) a e m q))
+    pub fault_new : list_refusal (take n b) ≡ 0 → (new ≡ 0 → ⊥) → refused_at new (length (take n b)) ≡ add_told b n kind number name
+    fault_new g f = told_no new new refl (length (take n b)) (length (take n b)) tt refl f ∙ sym (good g)
 
-pub ruleset refusal_laws = (rules, front_length, add_long, add_list, add_new)
+    pub add_list : (k p : ℕ) → refused_at k p ≡ read_labels_rule (take n b) → refused_at k p ≡ add_told b n kind number name
+    add_list k p e = let g = answered_refused (take n b) k p e in rw (g.0, g.1.0) (fault_list (λ z. g.1.1 (g.0 ∙ z)))
+
+    module _ (m : ℕ) (e : tells m ≡ read_labels_rule (take n b)) where
+      pub add_new : (k : ℕ) → k ≡ new → (k ≡ 0 → ⊥) → refused_at k (length (take n b)) ≡ add_told b n kind number name
+      add_new k q f = rw q (fault_new (answered_good (take n b) m e) (λ z. f (q ∙ z)))
+
+      pub add_none : 0 ≡ new → tells tt ≡ add_told b n kind number name
+      add_none q = told_yes 0 new q (length (take n b)) tt tt refl refl ∙ sym (good (answered_good (take n b) m e))
+
+      -- the checks of a new record, with the list's length
+      pub add_checked : (self : Result Unit Refusal) (r : Result Unit Fault) {Post : Refusal → Fault → Type 0} → MatchResult self (λ x. r ≡ Ok x) (λ e. IsErrAnd r (Post e))
+          → ((e : Refusal) (f : Fault) → Post e f → f ≡ record { refusal = e; offset = length (take n b) }) → number_found self ≡ new → told_by r ≡ add_told b n kind number name
+      add_checked self (Ok x) c made e = add_none (put_ok self (Ok x) (length (take n b)) c made x refl ∙ e)
+      add_checked self (Err f) c made e = let q = put_err self (Err f) (length (take n b)) c made f refl in rw q.1 (add_new (refusal_number f.refusal) (q.0 ∙ e) (refusal_some f.refusal))
+
+pub ruleset refusal_laws = (rules, front_length, add_long, add_list, add_new, add_none)
 
 -- what holds where nothing is refused
 pub record Adding (b : List ℕ) (n kind number : ℕ) (name : List ℕ) : Type 0 where
@@ -82,23 +100,20 @@ adding b n kind number name e = go (leb n (length b)) refl e
 pub add_size : (b b' : List ℕ) (n kind number : ℕ) (name : List ℕ) → b' ≡ pasted b n (fitted_bytes kind number name) → length b' ≡ length b
 add_size b b' n kind number name e = rw e (pasted_length b n (fitted_bytes kind number name))
 
-module _ (b : List ℕ) (n kind number : ℕ) (name : List ℕ) (f : Fault) (e : f ≡ add_fault b n kind number name) where
-  refusal_is : f.refusal ≡ add_refusal b n kind number name
-  unfolding add_fault
-  refusal_is = ap (λ (f : Fault). f.refusal) e
+module _ (b : List ℕ) (n kind number : ℕ) (name : List ℕ) where
+  pub add_refused : (k p : ℕ) → refused_at k p ≡ add_told b n kind number name → (refused_at k p, b) ≡ add_rule b n kind number name
+  unfolding add_rule add_told
+  add_refused k p e =
+      let g = told_is (add_refusal b n kind number name) (add_offset b n) tt k p (sym e) in
+      ruled_at_no k (add_refusal b n kind number name) g.0 p (add_offset b n) (n + record_size kind) (put b n (label_bytes kind number name)) b g.1.0 g.1.1
 
-  offset_is : f.offset ≡ add_offset b n
-  unfolding add_fault
-  offset_is = ap (λ (f : Fault). f.offset) e
+  module _ (e : tells tt ≡ add_told b n kind number name) (size : ℕ) (es : size ≡ record_size kind) where
+    none : add_refusal b n kind number name ≡ 0
+    unfolding add_told
+    none = (told_gave (add_refusal b n kind number name) (add_offset b n) tt tt (sym e)).0
 
-  pub add_refused : (f.refusal ≡ 0 → ⊥) → (refused_at f.refusal f.offset, b) ≡ add_rule b n kind number name
-  unfolding add_rule
-  add_refused h =
-      ruled_at_no f.refusal (add_refusal b n kind number name) refusal_is f.offset (add_offset b n) (n + record_size kind) (put b n (label_bytes kind number name)) b offset_is h
-
-  module _ (z : f.refusal ≡ 0) (size : ℕ) (es : size ≡ record_size kind) where
     a : Adding b n kind number name
-    a = adding b n kind number name (sym refusal_is ∙ z)
+    a = adding b n kind number name none
 
     room : n + record_size kind ≤ length b
     room = omega (arith, a.within, a.new.roomy)
@@ -114,6 +129,6 @@ module _ (b : List ℕ) (n kind number : ℕ) (name : List ℕ) (f : Fault) (e :
         fitted_is kind number name a.new.short (omega (arith, s.0)) (omega (arith, s.1)) in
         let r : b' ≡ put b n (label_bytes kind number name) =
         q ∙ ap (pasted b n) g ∙ pasted_in b n (label_bytes kind number name) (omega (arith, room, label_length kind number name a.new.short)) in
-        ruled_at_yes f.refusal (add_refusal b n kind number name) refusal_is (add_offset b n) (n + size) (n + record_size kind) b' (put b n (label_bytes kind number name)) b z (rw es) r
+        ruled_at_yes 0 (add_refusal b n kind number name) (sym none) (add_offset b n) (n + size) (n + record_size kind) b' (put b n (label_bytes kind number name)) b refl (rw es) r
 
 pub ruleset add_laws = (rules, add_size, add_refused, add_fits, add_done)

@@ -19,20 +19,16 @@ faults =
             read = sym (told_no (list_refusal l) (list_refusal l) refl (fault_offset l) (fault_offset l) (records l) refl f);
             find = λ kind number. sym (find_faulty l kind number f);
             add = λ b n kind number name i e.
-                sym
-                (add_refused b n kind number name (record { refusal = list_refusal l; offset = fault_offset l })
-                (rw (← e) (fault_list b n kind number name i (rw e f))) f);
+                sym (add_refused b n kind number name (list_refusal l) (fault_offset l) (rw (← e) (fault_list b n kind number name i (rw e f))));
           };
       asked = λ l g.
           record {
             find = λ kind number f. sym (find_asked l kind number g f);
             add = λ b n kind number name i e f.
                 sym
-                (add_refused b n kind number name (record { refusal = new_refusal l (length b - n) kind number name; offset = length l })
-                (rw (← e) (fault_new b n kind number name i (rw e g))) f);
+                (add_refused b n kind number name (new_refusal l (length b - n) kind number name) (length l)
+                (rw (← e) (fault_new b n kind number name i (rw e g) (rw e f))));
           };
       past = λ b n kind number name h.
-          sym
-          (add_refused b n kind number name (record { refusal = 4; offset = n }) (add_long b n kind number name h)
-          (λ (z : ◌≡◌ {A = ℕ} 4 0). omega arith));
+          sym (add_refused b n kind number name 4 n (add_long b n kind number name h));
     }

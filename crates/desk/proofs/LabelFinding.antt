@@ -23,20 +23,15 @@ use Rattle.records.proofs.Placing.{good_offset}
 use Rattle.records.proofs.Sizes.{size_width, place_begins}
 use Rattle.records.proofs.Telling.{told_no, told_yes, told_gave}
 use Rattle.records.specs.Record.{head_size, record_size, kind_of, name_in, place_of, record_at, records, record_of, earlier, list_refusal, fault_offset, key_refusal}
-use Rattle.records.specs.Told.{Told, refused_at, tells, told}
-use Rattle.records.specs.declared.Fault.{Fault}
+use Rattle.records.specs.Told.{refused_at, tells, told}
 use Rattle.desk.proofs.LabelReading.{answered_good, answered_refused}
-use Rattle.desk.specs.Label.{read_labels_rule, label_counted, name_of, find_label_rule, label_placed, name_part}
+use Rattle.desk.specs.Label.{read_labels_rule, name_of, find_label_rule, name_part}
 use Rattle.desk.specs.LabelInner.{Counted}
-use Rattle.desk.specs.declared.label.read.LabelCount.{LabelCount}
-use Rattle.desk.specs.declared.label.read.LabelCount.TheVariants.{Records, Refused as Uncounted}
-use Rattle.desk.specs.declared.label.find.LabelPlace.{LabelPlace}
-use Rattle.desk.specs.declared.label.find.LabelPlace.TheVariants.{Found, Missing, Refused as Unplaced}
 
 -- ---- the name of a record
 
 module _ (l : List ℕ) (k : ℕ) where
-  pub name_missing : k ≡ 0 → tells nowhere ≡ tells (name_of l k)
+  pub name_missing : k ≡ 0 → nowhere ≡ name_of l k
   unfolding name_of
   name_missing z = rw z
 
@@ -48,14 +43,14 @@ module _ (l : List ℕ) (k : ℕ) where
     place_fits h = record { fits = omega arith }
 
     pub name_placed : (t q : Bor (List ℕ)) → Counted l k → (k ≡ 0 → ⊥) → t.now ≡ name_in x → IsPart q t (slice_cut t.now Trimmed)
-        → tells (at (length l - length x + head_size, length q.now)) ≡ tells (name_of l k)
+        → at (length l - length x + head_size, length q.now) ≡ name_of l k
     unfolding name_of
     name_placed t q c h e i =
         let p : length l - length x ≡ place_of l (k - 1) = rw ex (record_place l (k - 1) (omega (arith, c.most, h))) in
         let n : length q.now ≡ trimmed_length (name_in (record_at l (k - 1))) = part_trimmed q t i ∙ ap trimmed_length (e ∙ ap name_in ex) in
         rw (p, n) (go k h)
       where
-        go : (k : ℕ) → (k ≡ 0 → ⊥) → tells (at (place_of l (k - 1) + head_size, trimmed_length (name_in (record_at l (k - 1))))) ≡ tells (name_of l k)
+        go : (k : ℕ) → (k ≡ 0 → ⊥) → at (place_of l (k - 1) + head_size, trimmed_length (name_in (record_at l (k - 1)))) ≡ name_of l k
         go zero h = absurd (h refl)
         go (suc k) h = let z : suc k - 1 ≡ k = omega arith in rw z
 
@@ -79,18 +74,15 @@ module _ (l : List ℕ) (kind number : ℕ) where
   pub find_asked : list_refusal l ≡ 0 → (key_refusal kind number ≡ 0 → ⊥) → refused_at (key_refusal kind number) (length l) ≡ find_label_rule l kind number
   find_asked g h = told_no (key_refusal kind number) _ refl (length l) (length l) _ refl h ∙ sym (find_good g)
 
-  module _ (a : LabelCount) (c : label_counted a ≡ read_labels_rule l) where
-    pub find_list : (f : Fault) → a ≡ Uncounted f → refused_at f.refusal f.offset ≡ find_label_rule l kind number
-    find_list f q = let n = answered_refused l a c f q in rw (n.0, n.1.0) (find_faulty (λ z. n.1.1 (n.0 ∙ z)))
+  pub find_list : (k p : ℕ) → refused_at k p ≡ read_labels_rule l → refused_at k p ≡ find_label_rule l kind number
+  find_list k p c = let n = answered_refused l k p c in rw (n.0, n.1.0) (find_faulty (λ z. n.1.1 (n.0 ∙ z)))
 
-    module _ (n j : ℕ) (q : a ≡ Records n) (e : j ≡ key_refusal kind number) where
-      pub find_key : (j ≡ 0 → ⊥) → refused_at j (length l) ≡ find_label_rule l kind number
-      find_key h = rw e (find_asked (answered_good l a c n q) (λ z. h (e ∙ z)))
+  module _ (n j : ℕ) (c : tells n ≡ read_labels_rule l) (e : j ≡ key_refusal kind number) where
+    pub find_key : (j ≡ 0 → ⊥) → refused_at j (length l) ≡ find_label_rule l kind number
+    find_key h = rw e (find_asked (answered_good l n c) (λ z. h (e ∙ z)))
 
-      pub find_name : (k : ℕ) (r : Told (Sought (ℕ × ℕ))) → j ≡ 0 → k ≡ record_of l kind number (records l) → r ≡ tells (name_of l k) → r ≡ find_label_rule l kind number
-      find_name k r z f x = x ∙ told_yes j _ e (length l) (name_of l k) _ z (ap (name_of l) f) ∙ sym (find_good (answered_good l a c n q))
-
-pub ruleset find_laws = (rules, found_counted, find_list, find_key, find_name)
+    pub find_name : (k : ℕ) (r : Sought (ℕ × ℕ)) → j ≡ 0 → k ≡ record_of l kind number (records l) → r ≡ name_of l k → tells r ≡ find_label_rule l kind number
+    find_name k r z f x = ap tells x ∙ told_yes j _ e (length l) (name_of l k) _ z (ap (name_of l) f) ∙ sym (find_good (answered_good l n c))
 
 -- ---- in a good list
 
@@ -118,29 +110,30 @@ module _ (l : List ℕ) (g : list_refusal l ≡ 0) where
 
 -- ---- the read-only form
 
-pub place_within : (l : List ℕ) (kind number : ℕ) (q : LabelPlace) → label_placed q ≡ find_label_rule l kind number → (place n : ℕ) → q ≡ Found place n
-    → place + n ≤ length l
+pub place_within : (l : List ℕ) (kind number place n : ℕ) → tells (at (place, n)) ≡ find_label_rule l kind number → place + n ≤ length l
 unfolding find_label_rule
-place_within l kind number q e place n f =
-    let g = told_gave (earlier (list_refusal l) (key_refusal kind number)) (fault_offset l) _ (at (place, n)) (sym e ∙ ap label_placed f) in
+place_within l kind number place n e =
+    let g = told_gave (earlier (list_refusal l) (key_refusal kind number)) (fault_offset l) _ (at (place, n)) (sym e) in
     let z = earlier_none (list_refusal l) (key_refusal kind number) g.0 in
     found_within l z.0 (record_of l kind number (records l)) place n (record_of_le l kind number (records l)) g.1
 
-module _ (r s : Bor (List ℕ)) (kind number : ℕ) (q : LabelPlace) (e : label_placed q ≡ find_label_rule s.now kind number) where
-  pub part_found : (place n : ℕ) → q ≡ Found place n → IsPart r s (slice_cut s.now (CountedCut (place + 1) n)) → IsPart r s (name_part (find_label_rule s.now kind number))
+module _ (r s : Bor (List ℕ)) (kind number : ℕ) where
+  pub part_found : (place n : ℕ) → tells (at (place, n)) ≡ find_label_rule s.now kind number → IsPart r s (slice_cut s.now (CountedCut (place + 1) n))
+      → IsPart r s (name_part (find_label_rule s.now kind number))
   unfolding name_part
-  part_found place n f i = rw (← e, f) (part_counted r s place n (place_within s.now kind number q e place n f) i)
+  part_found place n e i = rw (← e) (part_counted r s place n (place_within s.now kind number place n e) i)
 
-  pub part_missing : q ≡ Missing → IsPart r s (slice_cut s.now (CountedCut 1 0)) → IsPart r s (name_part (find_label_rule s.now kind number))
+  pub part_missing : tells nowhere ≡ find_label_rule s.now kind number → IsPart r s (slice_cut s.now (CountedCut 1 0)) → IsPart r s (name_part (find_label_rule s.now kind number))
   unfolding name_part
-  part_missing f i = rw (← e, f) (part_counted r s 0 0 (omega arith) i)
+  part_missing e i = rw (← e) (part_counted r s 0 0 (omega arith) i)
 
-  pub part_refused : (f : Fault) → q ≡ Unplaced f → IsPart r s (slice_cut s.now (CountedCut 1 0)) → IsPart r s (name_part (find_label_rule s.now kind number))
+  pub part_refused : (k p : ℕ) → refused_at k p ≡ find_label_rule s.now kind number → IsPart r s (slice_cut s.now (CountedCut 1 0))
+      → IsPart r s (name_part (find_label_rule s.now kind number))
   unfolding name_part
-  part_refused x f i = rw (← e, f) (part_counted r s 0 0 (omega arith) i)
+  part_refused k p e i = rw (← e) (part_counted r s 0 0 (omega arith) i)
 
-pub part_fits : (l : List ℕ) (kind number : ℕ) (q : LabelPlace) → label_placed q ≡ find_label_rule l kind number → (place n : ℕ) → q ≡ Found place n
-    → length l * 1 < 2 ^ 63 → (m : ℕ) → m ≤ 9 → Fits w64 (place + m)
-part_fits l kind number q e place n f h m i = record { fits = omega (arith, place_within l kind number q e place n f) }
+pub part_fits : (l : List ℕ) (kind number place n : ℕ) → tells (at (place, n)) ≡ find_label_rule l kind number → length l * 1 < 2 ^ 63 → (m : ℕ) → m ≤ 9
+    → Fits w64 (place + m)
+part_fits l kind number place n e h m i = record { fits = omega (arith, place_within l kind number place n e) }
 
 pub ruleset part_laws = (rules, part_found, part_missing, part_refused, part_fits)

@@ -19,11 +19,8 @@ use Rattle.records.proofs.Sizes.{size_least}
 use Rattle.records.proofs.Telling.{told_no, told_yes, told_gave, told_is}
 use Rattle.records.specs.Record.{record_size, is_number_of, kind_of, number_in, records, is_record, is_fresh, body_refusal, behind_refusal, list_refusal, fault_offset}
 use Rattle.records.specs.Told.{refused_at, tells}
-use Rattle.records.specs.declared.Fault.{Fault}
-use Rattle.desk.specs.Label.{label_counted, read_labels_rule}
+use Rattle.desk.specs.Label.{read_labels_rule}
 use Rattle.desk.specs.LabelInner.{Markable, mark_of}
-use Rattle.desk.specs.declared.label.read.LabelCount.{LabelCount}
-use Rattle.desk.specs.declared.label.read.LabelCount.TheVariants.{Records, Refused as Uncounted}
 
 -- ---- the marks
 
@@ -158,11 +155,11 @@ pub ruleset read_laws = (
 
 -- ---- what the reader answered
 
-module _ (l : List ℕ) (a : LabelCount) (e : label_counted a ≡ read_labels_rule l) where
-  pub answered_good : (n : ℕ) → a ≡ Records n → list_refusal l ≡ 0
+module _ (l : List ℕ) where
+  pub answered_good : (n : ℕ) → tells n ≡ read_labels_rule l → list_refusal l ≡ 0
   unfolding read_labels_rule
-  answered_good n q = (told_gave (list_refusal l) (fault_offset l) (records l) n (sym e ∙ ap label_counted q)).0
+  answered_good n e = (told_gave (list_refusal l) (fault_offset l) (records l) n (sym e)).0
 
-  pub answered_refused : (f : Fault) → a ≡ Uncounted f → (f.refusal ≡ list_refusal l) × ((f.offset ≡ fault_offset l) × (f.refusal ≡ 0 → ⊥))
+  pub answered_refused : (k p : ℕ) → refused_at k p ≡ read_labels_rule l → (k ≡ list_refusal l) × ((p ≡ fault_offset l) × (k ≡ 0 → ⊥))
   unfolding read_labels_rule
-  answered_refused f q = told_is (list_refusal l) (fault_offset l) (records l) f.refusal f.offset (sym e ∙ ap label_counted q)
+  answered_refused k p e = told_is (list_refusal l) (fault_offset l) (records l) k p (sym e)

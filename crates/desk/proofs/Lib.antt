@@ -1,3 +1,4 @@
+pub mod Refused
 pub mod CueNumbers
 pub mod CueWords
 pub mod CueReading

@@ -23,7 +23,10 @@ pub fn check_new(
     kinds::check_key(kind, number)?;
     strlib::check(name.len() <= kinds::width_of(kind), Refusal::Position)?;
     strlib::check(kinds::is_name(name), Refusal::Character)?;
-    strlib::check(lists::find_record(list, kind, number) == 0, Refusal::Repeated)?;
+    strlib::check(
+        lists::find_record(list, kind, number) == 0,
+        Refusal::Repeated,
+    )?;
     strlib::check(kinds::size_of(kind) <= room, Refusal::Room)
 }
 

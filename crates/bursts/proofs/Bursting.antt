@@ -1,105 +1,29 @@
 -- Laws of a burst's code: each return is a clause of the rule, and what was checked is what a run that goes on asks.
 -- Assumes nothing.
 use mathlib.Core.Path.{◌≡◌, refl, sym, ap, ◌∙◌}
-use mathlib.Core.Bool.{Bool, true, false, ◌&&◌, cond, and-true, and-false}
+use mathlib.Core.Bool.{Bool, true, false, ◌&&◌, cond}
 use mathlib.Core.List.{List, [], ◌∷◌, ◌++◌}
-use Prim.Native.Nat.{ℕ, suc, ◌+◌, ◌-◌, ◌≤◌, ◌<◌}
+use Prim.Native.Nat.{ℕ, ◌+◌, ◌≤◌}
 use native.Mathlib.Omega.{arith}
 use mir.Syntax.{w64}
 use mir.Val.{Fits}
 use lib.Dec.{leb, ltb, eqb}
 use lib.ListN.{length}
 use borrow.Author.Rules.{rules}
-use borrow.Author.Tests.{leb-true, le-leb, lt-leb}
+use borrow.Author.Tests.{leb-true}
 use Rattle.strlib.proofs.Checking.{first_both}
-use Rattle.strlib.proofs.Pointing.{leb_same}
 use Rattle.strlib.proofs.Refusing.{and_both, passed, first_before, first_behind, outcome_no}
 use Rattle.strlib.specs.Pointer.{characters}
 use Rattle.strlib.specs.Refusal.{Outcome, refused, gives, first, outcome}
-use Rattle.search.specs.Search.{Result, nothing, found}
+use Rattle.search.specs.Search.{Result}
 use Rattle.table.proofs.Resuming.{resumed_is}
-use Rattle.search.proofs.Placing.{placed_none, placed_some}
 use Rattle.table.specs.Run.{size_of, is_sized, Walk, bad, rests, only_if, is_rest}
 use Rattle.table.specs.Resume.{read_on, resumed}
-use Rattle.search.specs.Inner.{placed}
 use Rattle.table.specs.Inner.{rests_of, note_of}
 use Rattle.table.specs.declared.Progress.{Progress}
 use Rattle.bursts.specs.Bursts.{carried_note, carried_by, is_note, agrees, is_sound, is_carried, delivery_checks, before_burst_checks, before_burst, walked, burst_refusal, carried_on, burst_rule}
 use Rattle.bursts.specs.Inner.{own_refusal}
 use Rattle.bursts.specs.declared.Carried.{Carried}
-
--- ---- what is carried
-
-module _ (stopped : Bool) (q : ℕ) where
-  pub stopped_is : stopped ≡ true → eqb q 0 ≡ agrees stopped q
-  unfolding agrees
-  stopped_is e = rw e
-
-  pub going_is : stopped ≡ false → leb 1 q ≡ agrees stopped q
-  unfolding agrees
-  going_is e = rw e
-
-module _ (c : Carried) where
-  pub note_none : c.noted ≡ false → true ≡ is_note c.read (carried_note c)
-  unfolding is_note
-  note_none e = rw e
-
-  module _ (e : c.noted ≡ true) where
-    pub note_low : c.string < 1 → false ≡ is_note c.read (carried_note c)
-    unfolding is_note
-    note_low h = rw (e, lt-leb 1 c.string h)
-
-    module _ (a : 1 ≤ c.string) where
-      pub note_high : 32 < c.string → false ≡ is_note c.read (carried_note c)
-      unfolding is_note
-      note_high h = rw (e, le-leb 1 c.string a, lt-leb c.string 32 h)
-
-      module _ (b : c.string ≤ 32) where
-        pub note_front : c.pos1 < 1 → false ≡ is_note c.read (carried_note c)
-        unfolding is_note
-        note_front h = rw (e, le-leb 1 c.string a, le-leb c.string 32 b, lt-leb 1 c.pos1 h, and-false)
-
-        module _ (d : 1 ≤ c.pos1) where
-          pub note_order : c.pos2 < c.pos1 → false ≡ is_note c.read (carried_note c)
-          unfolding is_note
-          note_order h = rw (e, le-leb 1 c.string a, le-leb c.string 32 b, le-leb 1 c.pos1 d, lt-leb c.pos1 c.pos2 h, and-false)
-
-          pub note_end : c.pos1 ≤ c.pos2 → leb (c.pos2 - 1) c.read ≡ is_note c.read (carried_note c)
-          unfolding is_note
-          note_end h =
-              leb_same (c.pos2 - 1) c.read c.pos2 (suc c.read) (λ x. omega arith) (λ x. omega arith)
-              ∙ sym (rw (e, le-leb 1 c.string a, le-leb c.string 32 b, le-leb 1 c.pos1 d, le-leb c.pos1 c.pos2 h, and-true))
-
-module _ (c : Carried) (n : Bool) (en : n ≡ is_note c.read (carried_note c)) (s : Bool) (es : s ≡ agrees c.stopped c.state) where
-  pub sound_is : (p : Bool) → p ≡ (leb c.read c.total && n) → (r : Bool) → r ≡ (s && p) → r ≡ is_sound c
-  unfolding is_sound
-  sound_is p ep r er = er ∙ rw (ep, en, es)
-
-pub ruleset carried_laws = (rules, sound_is, stopped_is, going_is, note_none, note_low, note_high, note_front, note_order, note_end)
-
--- ---- between what is carried and where a run rests
-
-module _ (c : Carried) where
-  pub rests_none : c.noted ≡ false → rests c.state c.read (placed 0 0 0) ≡ rests c.state c.read (carried_note c)
-  rests_none e = rw e (ap (rests c.state c.read) (placed_none 0 0 0 refl))
-
-  pub rests_some : c.noted ≡ true → is_note c.read (carried_note c) ≡ true
-      → rests c.state c.read (placed c.string c.pos1 c.pos2) ≡ rests c.state c.read (carried_note c)
-  unfolding is_note
-  rests_some e k =
-      let a : is_note c.read (found c.string c.pos1 c.pos2) ≡ true = (rw e at k) in
-      let b = and_both (leb 1 c.string && leb c.string 32) _ a in
-      let j : 1 ≤ c.string = leb-true 1 c.string (and_both (leb 1 c.string) _ b.0).0 in
-      rw e (ap (rests c.state c.read) (placed_some c.string c.pos1 c.pos2 (λ z. omega arith)))
-
-module _ (q n d j pos1 pos2 : ℕ) (stopped : Bool) where
-  pub carried_none : j ≡ 0 → carried_by q n d nothing stopped ≡ carried_by q n d (placed j pos1 pos2) stopped
-  carried_none e = ap (λ (r : Result). carried_by q n d r stopped) (sym (placed_none j pos1 pos2 e))
-
-  pub carried_some : (j ≡ 0 → ⊥) → carried_by q n d (found j pos1 pos2) stopped ≡ carried_by q n d (placed j pos1 pos2) stopped
-  carried_some h = ap (λ (r : Result). carried_by q n d r stopped) (sym (placed_some j pos1 pos2 h))
-
-pub ruleset place_laws = (rules, rests_none, rests_some, carried_none, carried_some)
 
 -- ---- the refusals
 

@@ -5,7 +5,7 @@ use mathlib.Core.Bool.{Bool, true, false, ◌&&◌, and-true}
 use mathlib.Core.List.{List}
 use Prim.Native.Nat.{ℕ, ◌+◌, ◌≤◌, ◌<◌}
 use native.Mathlib.Omega.{arith}
-use lib.Dec.{leb, ltb}
+use lib.Dec.{ltb}
 use lib.ListN.{length}
 use borrow.Author.Rules.{rules}
 use borrow.Author.Tests.{ltb-true}
@@ -34,12 +34,6 @@ can_resume_lem ws h q n e =
     let d = and_both (characters h) _ b.1 in
     record { sized = a.0; state = ltb-true _ _ b.0; plain = d.0; near = within_is _ _ _ d.1 }
 
-pub resume_can : (ws h : List ℕ) (q n : ℕ) (plain : Bool) → plain ≡ characters h → (near : Bool) → near ≡ leb (n + length h) 65536
-    → (readable : Bool) → readable ≡ (plain && near) → (sized : Bool) → sized ≡ is_sized ws → (size : ℕ) → size ≡ size_of ws
-    → (on : Bool) → on ≡ (ltb q size && readable) → (r : Bool) → r ≡ (sized && on) → r ≡ can_resume ws h q n
-unfolding can_resume
-resume_can ws h q n plain e near f readable g sized a size b on d r x = x ∙ rw (d, g, e, f, a, b)
-
 -- over characters, no more than a store has, the words and the state decide
 pub resumed_is : (ws h : List ℕ) (q n : ℕ) (r : Result) → characters h ≡ true → n + length h ≤ 65536
     → resumed ws h q n r ≡ only_if (is_sized ws && ltb q (size_of ws)) (read_on ws h q n r)
@@ -66,4 +60,4 @@ module _ (ws h : List ℕ) (q n : ℕ) (b : Bool) (e : b ≡ can_resume ws h q n
       unfolding resumed
       resume_on r w x = x ∙ rw (es, ← e, z)
 
-pub ruleset resume_laws = (rules, resume_can, resume_not, resume_plain, resume_entered, resume_on)
+pub ruleset resume_laws = (rules, resume_not, resume_plain, resume_entered, resume_on)

@@ -1,6 +1,6 @@
 -- Laws of the run's code: each return is a clause of the rule. Assumes nothing.
 use mathlib.Core.Path.{◌≡◌, refl, sym, ap, ◌∙◌}
-use mathlib.Core.Bool.{Bool, true, false, and-false}
+use mathlib.Core.Bool.{Bool, true, false}
 use mathlib.Core.List.{List, [], ◌∷◌}
 use Rattle.std.proofs.Common.{Option, Some, None, Result as Answer, Ok, Err}
 use Rattle.std.proofs.lemmas.Result.{err_from_is_err_and}
@@ -8,13 +8,12 @@ use Rattle.std.specs.Option.{ok_or}
 use Rattle.std.specs.Result.{IsErrAnd}
 use Rattle.strlib.specs.declared.refusal.Refusal.{Refusal}
 use Rattle.strlib.specs.declared.refusal.Refusal.TheVariants.{Table}
-use Prim.Native.Nat.{ℕ, zero, suc, ◌+◌, ◌-◌, ◌*◌, ◌≤◌, ◌<◌}
-use native.Mathlib.Numerals.{add-one}
+use Prim.Native.Nat.{ℕ, suc, ◌+◌, ◌*◌, ◌≤◌, ◌<◌}
 use native.Mathlib.Omega.{arith}
-use lib.Dec.{leb, ltb}
+use lib.Dec.{leb}
 use lib.ListN.{length, get_or, drop}
 use borrow.Author.Rules.{rules}
-use borrow.Author.Tests.{leb-true, le-leb, lt-leb, lt-ltb, le-ltb}
+use borrow.Author.Tests.{leb-true}
 use Rattle.strlib.proofs.Checking.{first_both}
 use Rattle.strlib.proofs.Pointing.{fits_is, good_is, text_length}
 use Rattle.strlib.proofs.Refusing.{and_both, first_before, first_behind, passed, outcome_no, outcome_gave}
@@ -22,73 +21,13 @@ use Rattle.strlib.specs.Pointer.{store_fits, good_in, text_of, characters, reada
 use Rattle.strlib.proofs.Texts.{character_at}
 use Rattle.strlib.specs.Refusal.{refused, gives, first, outcome}
 use Rattle.strlib.specs.declared.StrPtr.{StrPtr}
-use Rattle.search.proofs.Placing.{placed_some, placed_none}
+use Rattle.search.proofs.Placing.{placed_none}
 use Rattle.search.specs.Inner.{placed}
-use Rattle.search.specs.Search.{Result, nothing, found}
-use Rattle.table.specs.Run.{size_of, word_of, is_sized, Walk, bad, rests, only_if, noted, enter, step, walk, run_over, is_rest, ran_of, host_checks, before_checks, met_checks, run_refusal, run_rule}
+use Rattle.search.specs.Search.{Result}
+use Rattle.table.specs.Run.{size_of, is_sized, Walk, bad, rests, enter, step, walk, run_over, is_rest, ran_of, host_checks, before_checks, met_checks, run_refusal, run_rule}
 use Rattle.table.specs.Inner.{note_of, rests_of, Entered, before_run, ended}
 use Rattle.table.specs.declared.Progress.{Progress}
-use Rattle.table.proofs.Walking.{enter_pos, step_pos, walk_bad, walk_stop, RestsIn, in_enter, in_step, walk_turn, walk_end}
-
-positive : (q : ℕ) → (q ≡ 0 → ⊥) → 0 < q
-positive zero y = absurd (y refl)
-positive (suc q) y = omega arith
-
--- ---- state q is entered with n characters read and the note r; g and k are what was read of its words
-
-module _ (ws : List ℕ) (q n : ℕ) (r : Result) where
-  pub enter_stop : q ≡ 0 → rests q n r ≡ enter ws q n r
-  unfolding enter
-  enter_stop z = rw z
-
-  module _ (y : q ≡ 0 → ⊥) (g : ℕ) (e : g ≡ word_of ws q 128) where
-    entered : enter ws q n r ≡ noted q g (word_of ws q 129) n r
-    entered = enter_pos ws q n r (positive q y) ∙ rw e
-
-    pub enter_none : g ≡ 0 → rests q n r ≡ enter ws q n r
-    enter_none z = sym (entered ∙ rw z)
-
-    pub enter_many : 32 < g → bad ≡ enter ws q n r
-    enter_many h = go g h ∙ sym entered
-      where
-        go : (x : ℕ) → 32 < x → bad ≡ noted q x (word_of ws q 129) n r
-        go zero y = absurd (omega arith)
-        go (suc x) y = rw (lt-leb (suc x) 32 y)
-
-    module _ (k : ℕ) (d : k ≡ word_of ws q 129) (z : g ≡ 0 → ⊥) (s : g ≤ 32) where
-      pub enter_long : n < k → bad ≡ enter ws q n r
-      enter_long h = go g z s ∙ ap (λ (l : ℕ). noted q g l n r) d ∙ sym entered
-        where
-          go : (x : ℕ) → (x ≡ 0 → ⊥) → x ≤ 32 → bad ≡ noted q x k n r
-          go zero y b = absurd (y refl)
-          go (suc x) y b = rw (le-leb (suc x) 32 b, lt-leb k n h)
-
-      pub enter_good : k ≤ n → rests q n (placed g (n - k + 1) (n + 1)) ≡ enter ws q n r
-      enter_good h = ap (rests q n) (placed_some g (n - k + 1) (n + 1) z) ∙ go g z s ∙ ap (λ (l : ℕ). noted q g l n r) d ∙ sym entered
-        where
-          go : (x : ℕ) → (x ≡ 0 → ⊥) → x ≤ 32 → rests q n (found x (n - k + 1) (n + 1)) ≡ noted q x k n r
-          go zero y b = absurd (y refl)
-          go (suc x) y b = rw (le-leb (suc x) 32 b, le-leb k n h, add-one (n - k), add-one n)
-
-pub ruleset enter_laws = (rules, enter_stop, enter_none, enter_many, enter_long, enter_good)
-
--- ---- a character is read
-
-module _ (ws : List ℕ) (size q n : ℕ) (r : Result) (c : ℕ) where
-  module _ (y : q ≡ 0 → ⊥) (t : ℕ) (e : t ≡ word_of ws q c) where
-    stepped : step ws size (rests q n r) c ≡ only_if (ltb t size) (enter ws t (suc n) r)
-    stepped = step_pos ws size q n r c (positive q y) ∙ rw e
-
-    pub step_over : size ≤ t → bad ≡ step ws size (rests q n r) c
-    step_over h = sym (stepped ∙ rw (le-ltb t size h))
-
-    pub step_on : t < size → (w : Walk) → w ≡ enter ws t (n + 1) r → w ≡ step ws size (rests q n r) c
-    step_on h w p = p ∙ sym (stepped ∙ rw (lt-ltb t size h, add-one n))
-
-pub step_next : (ws : List ℕ) (size q n t : ℕ) → Entered ws size q n → t < size → Entered ws size t n
-step_next ws size q n t s h = record { state = h; long = s.long; near = s.near }
-
-pub ruleset step_laws = (rules, step_over, step_on, step_next)
+use Rattle.table.proofs.Walking.{walk_bad, walk_stop, RestsIn, in_enter, in_step, walk_turn, walk_end}
 
 -- ---- the loop: what is left of the text is walked from where the run rests
 
@@ -124,27 +63,6 @@ pub ruleset walk_laws = (rules, walk_stopped, walk_over, walk_refused, walk_on, 
 
 -- ---- the first word and the number of words
 
-pub size_none : (ws : List ℕ) → length ws ≡ 0 → 0 ≡ size_of ws
-size_none [] e = refl
-size_none (w ∷ ws) e = absurd (omega arith)
-
-pub ruleset size_laws = (rules, size_none)
-
-module _ (ws : List ℕ) (k : ℕ) (e : k ≡ size_of ws) where
-  pub sized_low : k < 2 → false ≡ is_sized ws
-  unfolding is_sized
-  sized_low l = rw (← e, lt-leb 2 k l)
-
-  pub sized_high : 242 < k → false ≡ is_sized ws
-  unfolding is_sized
-  sized_high l = rw (← e, lt-leb k 242 l, and-false (leb 2 k))
-
-  pub sized_long : 2 ≤ k → k ≤ 242 → leb (1 + 130 * k) (length ws) ≡ is_sized ws
-  unfolding is_sized
-  sized_long a b = rw (← e, le-leb 2 k a, le-leb k 242 b)
-
-pub ruleset sized_laws = (rules, sized_low, sized_high, sized_long)
-
 pub record Sized (ws : List ℕ) : Type 0 where
   pub low : 2 ≤ size_of ws
   pub high : size_of ws ≤ 242
@@ -156,10 +74,6 @@ sized_is ws e =
     let a = and_both (leb 2 (size_of ws)) _ e in
     let b = and_both (leb (size_of ws) 242) _ a.1 in
     record { low = leb-true _ _ a.0; high = leb-true _ _ b.0; long = leb-true _ _ b.1 }
-
-pub is_sized_lem : (ws : List ℕ) → 2 ≤ size_of ws → size_of ws ≤ 242 → 1 + 130 * size_of ws ≤ length ws → is_sized ws ≡ true
-unfolding is_sized
-is_sized_lem ws a b c = rw (le-leb 2 (size_of ws) a, le-leb (size_of ws) 242 b, le-leb (1 + 130 * size_of ws) (length ws) c)
 
 -- ---- enter, then walk
 
@@ -189,17 +103,6 @@ module _ (ws h : List ℕ) (size : ℕ) (e : size ≡ size_of ws) where
   start_over w x = x ∙ rw (e, placed_none 0 0 0 refl)
 
 pub ruleset start_laws = (rules, start_entered, start_over)
-
--- ---- the note of where a run rests
-
-module _ (p : Progress) where
-  pub note_none : p.last.string ≡ 0 → nothing ≡ note_of p.last
-  note_none d = sym (placed_none p.last.string p.last.pos1 p.last.pos2 d)
-
-  pub note_some : (p.last.string ≡ 0 → ⊥) → found p.last.string p.last.pos1 p.last.pos2 ≡ note_of p.last
-  note_some d = sym (placed_some p.last.string p.last.pos1 p.last.pos2 d)
-
-pub ruleset note_laws = (rules, note_none, note_some)
 
 -- ---- a refusal with 10 of words that are no table
 

@@ -30,6 +30,7 @@ pub struct Progress {
 }
 
 impl Progress {
+    #[tactic(auto, unfolding(search::specs::Inner::placed))]
     pub fn note(self) -> Option<Note>
         ensures { noted_as result ≡ note_of self.last }
     {
@@ -65,6 +66,7 @@ fn size_of(table: &[u16]) -> usize
 }
 
 // The state is entered: its string, if it has one, is noted. None if its words are no table's.
+#[tactic(auto, unfolding(crate::specs::Run::enter, search::specs::Inner::placed))]
 fn enter(table: &[u16], size: usize, at: Progress) -> Option<Progress>
     requires { Entered table.now size at.state at.read }
     ensures { walked_of result ≡ enter table.now at.state at.read (note_of at.last) }
@@ -97,6 +99,7 @@ fn enter(table: &[u16], size: usize, at: Progress) -> Option<Progress>
 }
 
 // One character is read and the next state entered.
+#[tactic(auto, unfolding(crate::specs::Run::step))]
 fn step(table: &[u16], size: usize, at: Progress, c: u8) -> Option<Progress>
     requires { Entered table.now size at.state (at.read + 1) × (c ≤ 127) × (at.state ≡ 0 → ⊥) }
     ensures { walked_of result ≡ step table.now size (rests_of at) c }
@@ -117,6 +120,7 @@ fn step(table: &[u16], size: usize, at: Progress, c: u8) -> Option<Progress>
 }
 
 // The characters of a text are read one by one, until the run stops.
+#[tactic(auto, using(crate::proofs::Running::walk_laws))]
 fn walk(text: &[u8], table: &[u16], size: usize, from: Progress) -> Option<Progress>
     requires { Entered table.now size from.state (from.read + length text.now) × (characters text.now ≡ true) }
     ensures { walked_of result ≡ walk table.now size text.now (rests_of from) }
@@ -132,6 +136,7 @@ fn walk(text: &[u8], table: &[u16], size: usize, from: Progress) -> Option<Progr
 }
 
 // The state is entered, and a text is read from there.
+#[tactic(auto, using(crate::proofs::Running::on_laws))]
 fn read_on(text: &[u8], table: &[u16], size: usize, from: Progress) -> Option<Progress>
     requires { Entered table.now size from.state (from.read + length text.now) × (characters text.now ≡ true) }
     ensures { walked_of result ≡ walk table.now size text.now (enter table.now from.state from.read (note_of from.last)) }

@@ -6,6 +6,7 @@ ghost use Rattle.table.specs.Inner.{note_of, walked_of};
 use super::Progress;
 use strlib::StrPtr;
 
+#[tactic(auto, unfolding(crate::specs::Resume::can_resume))]
 fn can_resume(text: &[u8], table: &[u16], state: usize, read: usize) -> bool
     ensures { result ≡ can_resume table.now text.now state read }
 {
@@ -17,6 +18,7 @@ fn can_resume(text: &[u8], table: &[u16], state: usize, read: usize) -> bool
 
 // The state is entered anew, and the text is read. None if the run cannot go on there, or meets words that are no
 // table's.
+#[tactic(auto, using(crate::proofs::Resuming::resume_laws))]
 pub fn resume(text: &[u8], table: &[u16], from: Progress) -> Option<Progress>
     ensures { walked_of result ≡ resumed table.now text.now from.state from.read (note_of from.last) }
 {

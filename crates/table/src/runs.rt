@@ -16,6 +16,7 @@ pub struct Ran {
 }
 
 // Whether the first word is a number of states, with a word for each of theirs.
+#[tactic(auto, unfolding(crate::specs::Run::is_sized))]
 pub(super) fn is_sized(table: &[u16]) -> bool
     ensures { result ≡ is_sized table.now }
 {
@@ -26,6 +27,7 @@ pub(super) fn is_sized(table: &[u16]) -> bool
 }
 
 // What is refused before a state is entered.
+#[tactic(auto, using(strlib::proofs::Answering::answer_laws), unfolding(crate::specs::Inner::before_run))]
 fn check_run(store: &[u8], host: StrPtr, table: &[u16]) -> Result<(), Refusal>
     ensures { number_found result ≡ before_run store.now host table.now }
 {
@@ -36,6 +38,7 @@ fn check_run(store: &[u8], host: StrPtr, table: &[u16]) -> Result<(), Refusal>
 }
 
 // The run over a text, from state 1 with nothing read.
+#[tactic(auto, using(crate::proofs::Running::start_laws))]
 fn run_over(text: &[u8], table: &[u16]) -> Option<Progress>
     requires { (is_sized table.now ≡ true) × (characters text.now ≡ true) × (length text.now ≤ 65536) }
     ensures { walked_of result ≡ run_over table.now text.now }
@@ -57,6 +60,7 @@ fn run_over(text: &[u8], table: &[u16]) -> Option<Progress>
 }
 
 // The run of a table over a host.
+#[tactic(auto, using(crate::proofs::Running::run_laws))]
 pub fn run(store: &[u8], host: StrPtr, table: &[u16]) -> Result<Ran, Refusal>
     ensures { ran_answered result ≡ run_rule store.now host table.now }
 {

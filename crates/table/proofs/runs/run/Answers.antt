@@ -1,13 +1,7 @@
 use Rattle.table.specs.Run.{bad}
 use Rattle.table.specs.Inner.{rests_of}
-use Rattle.table.proofs.Running.{run_laws, run_given, table_left}
+use Rattle.table.proofs.Running.{run_given, table_left}
 use Rattle.table.proofs.runs.run.Goals as goal
-
-pub returns-in_err-check_run : goal.returns-in_err-check_run
-returns-in_err-check_run c = search run_laws
-
-pub run_over-requires : goal.run_over-requires
-run_over-requires c = search run_laws
 
 pub returns-in_err-at : goal.returns-in_err-at
 returns-in_err-at c =

@@ -5,10 +5,12 @@
 // words and bytes of other sizes.
 #![tactic(auto)]
 
+use std::io;
+
 mod copies;
 
-fn main() {
-    copies::section_3_0();
-    copies::section_3_2();
-    copies::section_5_2();
+fn main(rt: HostRuntime) -> io::Result<()> {
+    copies::section_3_0(&rt)?;
+    copies::section_3_2(&rt)?;
+    copies::section_5_2(&rt)
 }

@@ -1,6 +1,7 @@
 // 3.1 and 5.1, the comparative routines. A comparison is written as yes or no, the sign of the lengths, and the split.
-use compare::Compared;
-use saying::{end_line, say, say_number, say_refused, say_yes};
+use compare::Comparison;
+use saying::{Answer, Yes};
+use std::{fmt, io};
 use strlib::StrPtr;
 
 const EQUAL: usize = 0;
@@ -17,24 +18,14 @@ const EXACT: usize = 1;
 
 const IGNORE: usize = 2;
 
-// A statement number of three or four digits.
-fn say_statement(number: usize) {
-    if number < 1000 {
-        say(b" ");
-    }
-    say_number(number);
-}
+#[derive(Clone, Copy)]
+struct Compared(Comparison);
 
-fn say_sign(sign: i8) {
-    if sign < 0 {
-        say(b" -1");
-        return;
+impl fmt::Display for Compared {
+    fn fmt<W: fmt::Write>(&self, f: &mut fmt::Formatter<W>) -> fmt::Result {
+        let Comparison { yes, sign, split } = self.0;
+        write!(f, "{} {} {split}", Yes(yes), sign as i8)
     }
-    if 0 < sign {
-        say_number(1);
-        return;
-    }
-    say_number(0);
 }
 
 fn compare(
@@ -44,85 +35,79 @@ fn compare(
     code: usize,
     style: usize,
     translation: i64,
-) {
-    match compare::compare(store, string1, string2, code, style, translation) {
-        Compared::Answer(c) => {
-            say_yes(c.yes);
-            say_sign(c.sign);
-            say_number(c.split);
-            end_line();
-        }
-        Compared::Refused(n) => say_refused(n),
-    }
+) -> Answer<Compared> {
+    let answer = compare::compare(store, string1, string2, code, style, translation);
+    Answer(answer.map(Compared))
 }
 
-// A comparison in padded style without a translation.
-fn padded(name: &[u8], store: &[u8], string1: StrPtr, string2: StrPtr, code: usize) {
-    say(name);
-    compare(store, string1, string2, code, PADDED, 0);
-}
-
-fn level_one(store: &[u8]) {
+fn level_one(rt: &impl Print, store: &[u8]) -> io::Result<()> {
     let istr = StrPtr::full(0, 5);
     let astr = StrPtr::full(5, 5);
-    padded(b"3.1  eqlstr", store, istr, astr, EQUAL);
-    padded(b"3.1  lesstr", store, istr, astr, LESS);
-    padded(
-        b"3.1  geqstr",
-        store,
-        istr,
-        StrPtr::full(10, 10),
-        GREATER_OR_EQUAL,
-    );
+    let calls = [
+        ("eqlstr", astr, EQUAL),
+        ("lesstr", astr, LESS),
+        ("geqstr", StrPtr::full(10, 10), GREATER_OR_EQUAL),
+    ];
+    for (name, string2, code) in calls {
+        println!(rt;
+            "3.1  {name} {}",
+            compare(store, istr, string2, code, PADDED, 0)
+        )?;
+    }
+    Ok(())
 }
 
-pub(crate) fn section_3_1() {
-    level_one(b"aaa  bbb  aaa       ");
+pub(crate) fn section_3_1(rt: &impl Print) -> io::Result<()> {
+    level_one(rt, b"aaa  bbb  aaa       ")
 }
 
-// The call at a statement number without a translation.
-fn call(number: usize, store: &[u8], string1: StrPtr, string2: StrPtr, code: usize, style: usize) {
-    say(b"5.1");
-    say_statement(number);
-    compare(store, string1, string2, code, style, 0);
-}
-
-// The call at a statement number, for equality of padded strings.
-fn translated(number: usize, store: &[u8], string1: StrPtr, string2: StrPtr, translation: i64) {
-    say(b"5.1");
-    say_statement(number);
-    compare(store, string1, string2, EQUAL, PADDED, translation);
-}
-
-fn styles(store: &[u8]) {
+// The calls at their statement numbers, without a translation.
+fn styles(rt: &impl Print, store: &[u8]) -> io::Result<()> {
     let abcde = StrPtr::full(0, 5);
     let xyz = StrPtr::full(5, 5);
     let abc = StrPtr::full(10, 5);
     let np_abc = StrPtr::full(10, 3);
-    call(100, store, abcde, xyz, LESS, PADDED);
-    call(200, store, xyz, abcde, LESS, PADDED);
-    call(300, store, abcde, abc, EQUAL, IGNORE);
-    call(400, store, abcde, abc, GREATER, IGNORE);
-    call(500, store, abcde, np_abc, EQUAL, IGNORE);
-    call(600, store, abcde, np_abc, GREATER, IGNORE);
-    call(700, store, np_abc, abc, EQUAL, EXACT);
-    call(800, store, np_abc, abc, LESS, EXACT);
-    call(900, store, np_abc, abc, EQUAL, PADDED);
-    call(1000, store, np_abc, abc, EQUAL, EXACT);
+    let calls = [
+        (100, abcde, xyz, LESS, PADDED),
+        (200, xyz, abcde, LESS, PADDED),
+        (300, abcde, abc, EQUAL, IGNORE),
+        (400, abcde, abc, GREATER, IGNORE),
+        (500, abcde, np_abc, EQUAL, IGNORE),
+        (600, abcde, np_abc, GREATER, IGNORE),
+        (700, np_abc, abc, EQUAL, EXACT),
+        (800, np_abc, abc, LESS, EXACT),
+        (900, np_abc, abc, EQUAL, PADDED),
+        (1000, np_abc, abc, EQUAL, EXACT),
+    ];
+    for (number, string1, string2, code, style) in calls {
+        println!(rt;
+            "5.1 {number:>4} {}",
+            compare(store, string1, string2, code, style, 0)
+        )?;
+    }
+    Ok(())
 }
 
-// The manual means capitals: it gives octal 101 as the code of "a".
-fn translations(store: &[u8]) {
+// The calls at their statement numbers, for equality of padded strings. The manual means capitals: it gives octal 101 as
+// the code of "a".
+fn translations(rt: &impl Print, store: &[u8]) -> io::Result<()> {
     let abcde = StrPtr::full(0, 5);
     let s12345 = StrPtr::full(5, 5);
     let abcd0 = StrPtr::full(10, 5);
-    translated(1100, store, abcde, s12345, 16);
-    translated(1200, store, s12345, abcde, -16);
-    translated(1300, store, abcd0, StrPtr::full(15, 5), 16);
-    translated(1400, store, abcd0, StrPtr::full(15, 4), 16);
+    let calls = [
+        (1100, abcde, s12345, 16),
+        (1200, s12345, abcde, -16),
+        (1300, abcd0, StrPtr::full(15, 5), 16),
+        (1400, abcd0, StrPtr::full(15, 4), 16),
+    ];
+    for (number, string1, string2, translation) in calls {
+        let answer = compare(store, string1, string2, EQUAL, PADDED, translation);
+        println!(rt; "5.1 {number:>4} {answer}")?;
+    }
+    Ok(())
 }
 
-pub(crate) fn section_5_1() {
-    styles(b"abcdexyz  abc  ");
-    translations(b"ABCDE12345ABCD01234 ");
+pub(crate) fn section_5_1(rt: &impl Print) -> io::Result<()> {
+    styles(rt, b"abcdexyz  abc  ")?;
+    translations(rt, b"ABCDE12345ABCD01234 ")
 }

@@ -11,13 +11,15 @@
 // Out of document 01's scope, and so left out: the lengths of literals (3.5).
 #![tactic(auto)]
 
+use std::io;
+
 mod comparing;
 mod replacing;
 mod substrings;
 
-fn main() {
-    comparing::section_3_1();
-    substrings::section_3_3();
-    replacing::section_3_5();
-    comparing::section_5_1();
+fn main(rt: HostRuntime) -> io::Result<()> {
+    comparing::section_3_1(&rt)?;
+    substrings::section_3_3(&rt)?;
+    replacing::section_3_5(&rt)?;
+    comparing::section_5_1(&rt)
 }

@@ -7,14 +7,16 @@
 // and the lines say so.
 #![tactic(auto)]
 
+use std::io;
+
 mod cuts;
 mod numbers;
 mod searching;
 mod sets;
 
-fn main() {
-    searching::section_3_4();
-    searching::section_5_3();
-    sets::section_5_4();
-    numbers::section_5_5();
+fn main(rt: HostRuntime) -> io::Result<()> {
+    searching::section_3_4(&rt)?;
+    searching::section_5_3(&rt)?;
+    sets::section_5_4(&rt)?;
+    numbers::section_5_5(&rt)
 }

@@ -1,67 +1,88 @@
 // How the programs of examples write an answer.
 #![tactic(auto)]
 
-use strlib::{StrAnswer, StrPtr};
+use std::{fmt, io};
+use strlib::{Refusal, StrList, StrPtr};
 
-pub fn say(text: &[u8]) {
-    io::write_all(1, text);
+// Of a test: yes or no.
+#[derive(Clone, Copy)]
+pub struct Yes(pub bool);
+
+// A string in its store: its characters, its length and its maximum.
+#[derive(Clone, Copy)]
+pub struct Shown<'a> {
+    pub store: &'a [u8],
+    pub string: StrPtr,
 }
 
-pub fn end_line() {
-    say(b"\n");
-}
+// What a search gives, or that there is nothing.
+#[derive(Clone, Copy)]
+pub struct Found<T>(pub Option<T>);
 
-pub fn say_number(n: usize) {
-    say(b" ");
-    io::print_decimal(1, n as u64);
-}
+// What a call answers: its value, or the refusal's number.
+#[derive(Clone, Copy)]
+pub struct Answer<T>(pub Result<T, Refusal>);
 
-pub fn say_refused(n: u8) {
-    say(b" refused");
-    say_number(n as usize);
-    end_line();
-}
-
-pub fn say_yes(yes: bool) {
-    if yes {
-        say(b" yes");
-    } else {
-        say(b" no");
-    }
-}
-
-// A string: its characters, its length and its maximum.
-pub fn say_string(store: &[u8], p: StrPtr) {
-    say(b" '");
-    say(strlib::text(store, p));
-    say(b"'");
-    say_number(p.length);
-    say(b" of");
-    say_number(p.maximum);
-}
-
-// A line for a string.
-pub fn show(name: &[u8], store: &[u8], p: StrPtr) {
-    say(name);
-    say_string(store, p);
-    end_line();
-}
-
-// A line for a call that gives a string or refuses.
-pub fn show_answer(name: &[u8], store: &[u8], r: StrAnswer) {
-    match r {
-        StrAnswer::Given(p) => show(name, store, p),
-        StrAnswer::Refused(n) => {
-            say(name);
-            say_refused(n);
+impl fmt::Display for Yes {
+    fn fmt<W: fmt::Write>(&self, f: &mut fmt::Formatter<W>) -> fmt::Result {
+        match self.0 {
+            true => write!(f, "yes"),
+            false => write!(f, "no"),
         }
     }
 }
 
+impl fmt::Display for Shown<'_> {
+    fn fmt<W: fmt::Write>(&self, f: &mut fmt::Formatter<W>) -> fmt::Result {
+        write!(f, "'")?;
+        for byte in strlib::text(self.store, self.string) {
+            write!(f, "{}", char::from(*byte))?;
+        }
+        write!(f, "' {} of {}", self.string.length, self.string.maximum)
+    }
+}
+
+impl<T: fmt::Display> fmt::Display for Found<T> {
+    fn fmt<W: fmt::Write>(&self, f: &mut fmt::Formatter<W>) -> fmt::Result {
+        match &self.0 {
+            Some(found) => write!(f, "{found}"),
+            None => write!(f, "nothing"),
+        }
+    }
+}
+
+impl<T: fmt::Display> fmt::Display for Answer<T> {
+    fn fmt<W: fmt::Write>(&self, f: &mut fmt::Formatter<W>) -> fmt::Result {
+        match &self.0 {
+            Ok(value) => write!(f, "{value}"),
+            Err(refusal) => write!(f, "refused {}", u8::from(*refusal)),
+        }
+    }
+}
+
+// Of a call that gives a string or refuses.
+pub fn string_answer(store: &[u8], answer: Result<StrPtr, Refusal>) -> Answer<Shown> {
+    Answer(answer.map(|string| Shown { store, string }))
+}
+
+// A line for a string.
+pub fn show(rt: &impl Print, name: &str, store: &[u8], string: StrPtr) -> io::Result<()> {
+    println!(rt; "{name} {}", Shown { store, string })
+}
+
 // The string that a call gave, to go on with; the null string where it refused.
-pub fn given(r: StrAnswer) -> StrPtr {
-    match r {
-        StrAnswer::Given(p) => p,
-        StrAnswer::Refused(_) => StrPtr::full(0, 0),
+pub fn given(answer: Result<StrPtr, Refusal>) -> StrPtr {
+    answer.unwrap_or(StrPtr::full(0, 0))
+}
+
+// A list of these strings, 32 at most.
+pub fn list_of(strings: &[StrPtr]) -> StrList {
+    let mut items = [StrPtr::full(0, 0); StrPtr::LIST_MAX];
+    for (item, string) in items.iter_mut().zip(strings) {
+        *item = *string;
+    }
+    StrList {
+        items,
+        count: strings.len(),
     }
 }

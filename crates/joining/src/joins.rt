@@ -29,6 +29,5 @@ pub fn join(
 {
     check_join(store, destination, list)?;
     let round = super::fill(store, destination, list.strings(), 0, 0);
-    let to = round.to;
-    Ok(copying::finish(store, destination, to.length, pad, round.completed))
+    Ok(copying::finish(store, destination, round.to.length, pad, round.completed))
 }

@@ -7,13 +7,13 @@ use super::{Place, Round};
 use strlib::{Refusal, StrList, StrPtr};
 
 // The length of the string at an index; 0 past the last.
+#[tactic(auto, using(crate::proofs::Placing::length_in, crate::proofs::Placing::length_past))]
 fn length_at(strings: &[StrPtr], i: usize) -> usize
     ensures { result ≡ length_at strings.now i }
 {
-    if i < strings.len() {
-        strings[i].length
-    } else {
-        0
+    match strings.get(i) {
+        Some(p) => p.length,
+        None => 0,
     }
 }
 

@@ -57,9 +57,6 @@ module _ (s : List ℕ) (base n count at : ℕ) (k : Room base n count at (lengt
   pub divisor_some : 0 < base
   divisor_some = base_some base n k.able
 
-  pub divisor_not : base ≡ 0 → ⊥
-  divisor_not e = omega (arith, divisor_some)
-
   pub rest_small : (m : ℕ) → m % base < 10
   rest_small m = let b = base_is base k.able.based in omega (arith, mod-lt m {m = base} (omega arith))
 
@@ -103,7 +100,7 @@ module _ (s : List ℕ) (base n count at : ℕ) (k : Room base n count at (lengt
         let z : j ≡ 0 = omega (arith, h) in
         sym (put_none t at) ∙ (subst (λ (i : ℕ). Putting s base n at t m i) z p).stored
 
-pub ruleset put_laws = (rules, divisor_some, divisor_not, rest_small, put_start, place_in, put_step, put_end)
+pub ruleset put_laws = (rules, divisor_some, rest_small, put_start, place_in, put_step, put_end)
 
 -- ---- the text
 

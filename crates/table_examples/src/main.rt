@@ -15,14 +15,14 @@ use table::{Note, Ran};
 // A list is translated once, and two hosts are searched by its table: what the two runs answer.
 fn search_two(
     store: &[u8],
-    list: &StrList,
+    list: StrList,
     table: &mut [u16],
     store1: &[u8],
     host1: StrPtr,
     store2: &[u8],
     host2: StrPtr,
 ) -> Result<(Result<Ran, Refusal>, Result<Ran, Refusal>), Refusal>
-    ensures { SearchedTwo store.now list.now.items list.now.count table.old store1.now host1 store2.now host2 (two_answered result) table.new }
+    ensures { SearchedTwo store.now list.items list.count table.old store1.now host1 store2.now host2 (two_answered result) table.new }
 {
     translator::translate(store, list, table)?;
     let first = table::run(store1, host1, table);
@@ -102,7 +102,7 @@ fn show(rt: &impl Print, name: &str, store: &[u8], n: usize, sizes: &[usize]) ->
     let whole = StrPtr::full(0, n);
     let rest = rest_of(n);
     let mut words = [7; StrPtr::TABLE_MIN];
-    match search_two(store, &list, &mut words, store, whole, store, rest) {
+    match search_two(store, list, &mut words, store, whole, store, rest) {
         Ok((first, second)) => {
             say_run(rt, name, first, search::search(store, whole, &list))?;
             say_run(rt, name, second, search::search(store, rest, &list))

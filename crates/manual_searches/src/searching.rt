@@ -93,7 +93,7 @@ fn search(
     store: &[u8],
     strings: &[StrPtr],
 ) -> io::Result<()> {
-    let answer = search::search(store, StrPtr::full(0, 10), &list_of(strings));
+    let answer = search::search(store, StrPtr::full(0, 10), list_of(strings));
     let matched = answer.map(|at| Found(at.map(|found| Matched { store, found })));
     println!(rt; "3.4  part {part} sp {sp} {}", Answer(matched))
 }
@@ -158,7 +158,7 @@ fn find(
     host: StrPtr,
     strings: &[StrPtr],
 ) -> io::Result<StrPtr> {
-    match search::search(store, host, &list_of(strings)) {
+    match search::search(store, host, list_of(strings)) {
         Ok(
             Some(
                 Match {

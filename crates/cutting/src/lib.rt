@@ -77,6 +77,7 @@ fn second_position(n: usize, pos2: usize) -> usize
 }
 
 // The string that is cut out.
+#[tactic(auto, using(crate::proofs::Making::cut_laws), unfolding(crate::specs::Cutting::cut_of))]
 fn cut_of(bytes: &[u8], string: StrPtr, cut: Cut) -> StrPtr
     requires { Cuttable string cut }
     ensures { result ≡ cut_of bytes.now string cut }

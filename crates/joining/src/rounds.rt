@@ -18,6 +18,7 @@ fn length_at(strings: &[StrPtr], i: usize) -> usize
 }
 
 // Whether the place lies in the list or directly behind it, for any count.
+#[tactic(auto, using(crate::proofs::Placing::place_laws))]
 fn is_place(list: &StrList, from: Place) -> bool
     ensures { result ≡ place_in list.now.items list.now.count from }
 {

@@ -10,13 +10,13 @@ use borrow.Author.Rules.{rules}
 use borrow.Author.Tests.{leb-true}
 use Rattle.strlib.proofs.Refusing.{passed}
 use Rattle.strlib.proofs.Pointing.{fits_is, good_is}
-use Rattle.strlib.specs.Pointer.{sized, part_of, store_fits, good_in, text_of}
+use Rattle.strlib.specs.Pointer.{store_fits, good_in}
 use Rattle.strlib.specs.declared.StrPtr.{StrPtr}
 use Rattle.cutting.proofs.Bounding.{counted_is, between_is}
-use Rattle.cutting.specs.Cutting.{trimmed_length, second, in_bounds, cut_of, cut_reads, cut_checks, cut_refusal}
+use Rattle.cutting.specs.Cutting.{second, in_bounds, cut_reads, cut_checks, cut_refusal}
 use Rattle.cutting.specs.Inner.{Cuttable, Inside}
 use Rattle.cutting.specs.declared.Cut.{Cut}
-use Rattle.cutting.specs.declared.Cut.TheVariants.{Relative, Counted, Between, Trimmed}
+use Rattle.cutting.specs.declared.Cut.TheVariants.{Relative, Counted, Between}
 
 -- what the bounds say of each cut
 pub relative_is : (p : StrPtr) (a : ℕ) → in_bounds p (Relative a) ≡ true → a ≤ p.length

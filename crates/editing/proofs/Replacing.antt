@@ -1,9 +1,9 @@
 -- Laws of replace: what stands behind string 2 moves first, then string 3 is put in front of it; the two writes are one
 -- `put` behind the characters that stay. Assumes nothing.
 use mathlib.Core.Path.{◌≡◌, refl, sym, ◌∙◌}
-use mathlib.Core.Bool.{true, false, and-false}
+use mathlib.Core.Bool.{true}
 use mathlib.Core.List.{List, ◌++◌, append_assoc}
-use Prim.Native.Nat.{ℕ, ◌+◌, ◌-◌, ◌≤◌, ◌<◌}
+use Prim.Native.Nat.{ℕ, ◌+◌, ◌-◌, ◌≤◌}
 use native.Mathlib.Omega.{arith}
 use lib.Dec.{leb}
 use lib.ListN.{length, take, drop, length-take, length-drop, length-append}
@@ -11,12 +11,12 @@ use lib.Seq.{drop-drop, take-take}
 use mir.Syntax.{w64}
 use mir.Val.{Fits}
 use borrow.Author.Rules.{rules}
-use borrow.Author.Tests.{leb-true, le-leb, lt-leb}
+use borrow.Author.Tests.{leb-true}
 use Rattle.strlib.specs.Pointer.{sized, good_in, text_of, clear}
 use Rattle.strlib.specs.Refusal.{gives}
 use Rattle.strlib.specs.Store.{put}
 use Rattle.strlib.specs.declared.StrPtr.{StrPtr}
-use Rattle.strlib.proofs.Pointing.{leb_same, fits_is, good_is, text_length}
+use Rattle.strlib.proofs.Pointing.{fits_is, good_is, text_length}
 use Rattle.strlib.proofs.Answering.{ruled_right}
 use Rattle.strlib.proofs.Refusing.{and_both, passed}
 use Rattle.strlib.proofs.Storing.{drop_take, put_length, put_kept, put_before}

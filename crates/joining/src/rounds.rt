@@ -35,7 +35,7 @@ fn is_place(list: &StrList, from: Place) -> bool
     from.character - 1 <= length_at(list.strings(), i)
 }
 
-#[tactic(auto, using(strlib::proofs::Answering::answer_laws), unfolding(crate::specs::Resuming::join_from_refusal, crate::specs::Joining::listed_refusal))]
+#[tactic(auto, using(strlib::proofs::Answering::answer_laws), unfolding(crate::specs::Resuming::join_from_refusal))]
 fn check_join_from(
     store: &[u8],
     destination: StrPtr,

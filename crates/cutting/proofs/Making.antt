@@ -1,7 +1,7 @@
 -- Laws of the part that is cut out: within the bounds each difference is a number, and the arms of the code make the
 -- part of the definition. Assumes nothing.
 use mathlib.Core.Path.{◌≡◌, refl, sym}
-use mathlib.Core.Bool.{true, cond}
+use mathlib.Core.Bool.{true}
 use mathlib.Core.List.{List}
 use Prim.Native.Nat.{ℕ, ◌+◌, ◌-◌, ◌≤◌}
 use native.Mathlib.Omega.{arith}
@@ -10,13 +10,13 @@ use borrow.Author.Rules.{rules}
 use borrow.Author.Tests.{leb-true}
 use Rattle.strlib.proofs.Refusing.{passed}
 use Rattle.strlib.proofs.Pointing.{fits_is, good_is}
-use Rattle.strlib.specs.Pointer.{sized, part_of, store_fits, good_in, text_of, readable}
+use Rattle.strlib.specs.Pointer.{store_fits, good_in}
 use Rattle.strlib.specs.declared.StrPtr.{StrPtr}
 use Rattle.cutting.proofs.Bounding.{counted_is, between_is}
-use Rattle.cutting.specs.Cutting.{trimmed_length, second, in_bounds, cut_of, cut_reads, cut_checks, cut_refusal}
+use Rattle.cutting.specs.Cutting.{second, in_bounds, cut_reads, cut_checks, cut_refusal}
 use Rattle.cutting.specs.Inner.{Cuttable, Inside}
 use Rattle.cutting.specs.declared.Cut.{Cut}
-use Rattle.cutting.specs.declared.Cut.TheVariants.{Relative, Counted, Between, Trimmed}
+use Rattle.cutting.specs.declared.Cut.TheVariants.{Relative, Counted, Between}
 
 -- what the bounds say of each cut
 pub relative_is : (p : StrPtr) (a : ℕ) → in_bounds p (Relative a) ≡ true → a ≤ p.length
@@ -72,24 +72,6 @@ module _ (p : StrPtr) (c : Cut) (k : Cuttable p c) where
     pub between_inside : Inside p (pos1 - 1)
     between_inside = record { within = omega (arith, are, k.room); end = k.end }
 
-module _ (s : List ℕ) (p : StrPtr) (c : Cut) (r : StrPtr) where
-  pub made_relative : (a : ℕ) → c ≡ Relative a → r ≡ part_of p a (p.length - a) (p.maximum - a) → r ≡ cut_of s p c
-  unfolding cut_of
-  made_relative a e h = rw e h
-
-  pub made_counted : (at n : ℕ) → c ≡ Counted at n → r ≡ part_of p (at - 1) n (p.maximum + 1 - at) → r ≡ cut_of s p c
-  unfolding cut_of
-  made_counted at n e h = rw e h
-
-  pub made_between : (pos1 pos2 q : ℕ) → c ≡ Between pos1 pos2 → q ≡ second p.length pos2 → r ≡ part_of p (pos1 - 1) (q - pos1) (p.length + 1 - pos1)
-      → r ≡ cut_of s p c
-  unfolding cut_of
-  made_between pos1 pos2 q e f h = rw (e, ← f) h
-
-  pub made_trimmed : (t : List ℕ) (n : ℕ) → c ≡ Trimmed → t ≡ text_of s p → n ≡ trimmed_length t → r ≡ sized p n → r ≡ cut_of s p c
-  unfolding cut_of
-  made_trimmed t n e f g h = rw (e, ← f, ← g) h
-
 pub ruleset cut_laws = (
   rules,
   relative_length,
@@ -102,10 +84,6 @@ pub ruleset cut_laws = (
   between_second,
   between_length,
   between_inside,
-  made_relative,
-  made_counted,
-  made_between,
-  made_trimmed,
 )
 
 -- ---- the call

@@ -5,33 +5,24 @@ ghost use Rattle.cutting.specs.Cutting.{counted_in, between_in, in_bounds, trimm
 use super::Cut;
 use strlib::StrPtr;
 
+#[tactic(auto, unfolding(crate::specs::Cutting::counted_in))]
 fn counted_in(maximum: usize, position: usize, count: usize) -> bool
     ensures { result ≡ counted_in maximum position count }
 {
-    if position == 0 {
-        return false;
-    }
-    if maximum < position - 1 {
-        return false;
-    }
-    count <= maximum - (position - 1)
+    position != 0 && position - 1 <= maximum && count <= maximum - (position - 1)
 }
 
+#[tactic(auto, unfolding(crate::specs::Cutting::between_in, crate::specs::Cutting::second))]
 fn between_in(n: usize, pos1: usize, pos2: usize) -> bool
     ensures { result ≡ between_in n pos1 pos2 }
 {
-    if pos1 == 0 {
-        return false;
-    }
     if pos2 == 0 {
-        return pos1 - 1 <= n;
+        return pos1 != 0 && pos1 - 1 <= n;
     }
-    if pos2 < pos1 {
-        return false;
-    }
-    pos2 - 1 <= n
+    pos1 != 0 && pos1 <= pos2 && pos2 - 1 <= n
 }
 
+#[tactic(auto, unfolding(crate::specs::Cutting::in_bounds))]
 pub fn in_bounds(string: StrPtr, cut: Cut) -> bool
     ensures { result ≡ in_bounds string cut }
 {

@@ -77,6 +77,7 @@ fn second_position(n: usize, pos2: usize) -> usize
 }
 
 // The string that is cut out.
+#[tactic(auto, using(crate::proofs::Making::cut_laws), unfolding(crate::specs::Cutting::cut_of))]
 fn cut_of(bytes: &[u8], string: StrPtr, cut: Cut) -> StrPtr
     requires { Cuttable string cut }
     ensures { result ≡ cut_of bytes.now string cut }
@@ -120,11 +121,7 @@ fn check_cut(store: &[u8], string: StrPtr, cut: Cut) -> Result<(), Refusal>
     strlib::check(bounds::in_bounds(string, cut), Refusal::Position)
 }
 
-#[tactic(
-    auto,
-    using(strlib::proofs::Answering::answer_laws, crate::proofs::Making::cut_ready),
-    unfolding(crate::specs::Cutting::cut_rule, strlib::specs::Refusal::outcome)
-)]
+#[tactic(auto, using(strlib::proofs::Answering::answer_laws, crate::proofs::Making::cut_ready), unfolding(crate::specs::Cutting::cut_rule, strlib::specs::Refusal::outcome))]
 fn cut_string(store: &[u8], string: StrPtr, cut: Cut) -> Result<StrPtr, Refusal>
     ensures { answered result ≡ cut_rule store.now string cut }
 {

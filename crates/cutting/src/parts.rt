@@ -17,6 +17,7 @@ fn part(bytes: &[u8], p: StrPtr) -> &[u8]
 }
 
 // Where a cut lies in a slice, which is cut as the string that it is whole.
+#[tactic(auto, using(crate::proofs::Slicing::slice_laws))]
 pub fn place_of(bytes: &[u8], cut: Cut) -> StrPtr
     ensures { result ≡ slice_cut bytes.now cut }
 {
@@ -27,6 +28,7 @@ pub fn place_of(bytes: &[u8], cut: Cut) -> StrPtr
     StrPtr::full(0, 0)
 }
 
+#[tactic(auto, using(crate::proofs::Slicing::slice_laws))]
 fn cut_slice(bytes: &[u8], cut: Cut) -> &[u8]
     ensures { IsPart result bytes.entry (slice_cut bytes.now cut) }
 {

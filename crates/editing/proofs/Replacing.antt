@@ -1,9 +1,9 @@
 -- Laws of replace: what stands behind string 2 moves first, then string 3 is put in front of it; the two writes are one
 -- `put` behind the characters that stay. Assumes nothing.
 use mathlib.Core.Path.{◌≡◌, refl, sym, ◌∙◌}
-use mathlib.Core.Bool.{true, false, and-false}
+use mathlib.Core.Bool.{true}
 use mathlib.Core.List.{List, ◌++◌, append_assoc}
-use Prim.Native.Nat.{ℕ, ◌+◌, ◌-◌, ◌≤◌, ◌<◌}
+use Prim.Native.Nat.{ℕ, ◌+◌, ◌-◌, ◌≤◌}
 use native.Mathlib.Omega.{arith}
 use lib.Dec.{leb}
 use lib.ListN.{length, take, drop, length-take, length-drop, length-append}
@@ -11,12 +11,12 @@ use lib.Seq.{drop-drop, take-take}
 use mir.Syntax.{w64}
 use mir.Val.{Fits}
 use borrow.Author.Rules.{rules}
-use borrow.Author.Tests.{leb-true, le-leb, lt-leb}
+use borrow.Author.Tests.{leb-true}
 use Rattle.strlib.specs.Pointer.{sized, good_in, text_of, clear}
 use Rattle.strlib.specs.Refusal.{gives}
 use Rattle.strlib.specs.Store.{put}
 use Rattle.strlib.specs.declared.StrPtr.{StrPtr}
-use Rattle.strlib.proofs.Pointing.{leb_same, fits_is, good_is, text_length}
+use Rattle.strlib.proofs.Pointing.{fits_is, good_is, text_length}
 use Rattle.strlib.proofs.Answering.{ruled_right}
 use Rattle.strlib.proofs.Refusing.{and_both, passed}
 use Rattle.strlib.proofs.Storing.{drop_take, put_length, put_kept, put_before}
@@ -28,42 +28,11 @@ use Rattle.editing.specs.Replacing.{lies_in, new_length, replaced, replace_check
 -- ---- the checks
 
 module _ (string1 string2 : StrPtr) where
-  pub part_low : string2.start < string1.start → false ≡ lies_in string1 string2
-  unfolding lies_in
-  part_low h = rw (lt-leb string1.start string2.start h)
-
-  pub part_high : string1.start ≤ string2.start → string1.length < string2.start - string1.start → false ≡ lies_in string1 string2
-  unfolding lies_in
-  part_high h k = rw (lt-leb (string2.start + string2.length) (string1.start + string1.length) (omega arith), and-false)
-
-  pub part_last : string1.start ≤ string2.start → string2.start - string1.start ≤ string1.length
-      → leb string2.length (string1.length - (string2.start - string1.start)) ≡ lies_in string1 string2
-  unfolding lies_in
-  part_last h k =
-      rw (le-leb string1.start string2.start h)
-      (leb_same string2.length (string1.length - (string2.start - string1.start)) (string2.start + string2.length) (string1.start + string1.length) (λ z. omega arith) (λ z. omega arith))
-
   part_is : lies_in string1 string2 ≡ true → (string1.start ≤ string2.start) × (string2.start + string2.length ≤ string1.start + string1.length)
   unfolding lies_in
   part_is e =
       let b = and_both (leb string1.start string2.start) (leb (string2.start + string2.length) (string1.start + string1.length)) e in
       (leb-true _ _ b.0, leb-true _ _ b.1)
-
-  module _ (string3 : StrPtr) where
-    pub fit_short : string1.length < string2.length → leb string3.length string1.maximum ≡ leb (new_length string1 string2 string3) string1.maximum
-    unfolding new_length
-    fit_short h = let e : string1.length - string2.length + string3.length ≡ string3.length = omega arith in rw e
-
-    pub fit_over : string1.maximum < string1.length - string2.length → false ≡ leb (new_length string1 string2 string3) string1.maximum
-    unfolding new_length
-    fit_over h = sym (lt-leb (string1.length - string2.length + string3.length) string1.maximum (omega arith))
-
-    pub fit_last : string1.length - string2.length ≤ string1.maximum
-        → leb string3.length (string1.maximum - (string1.length - string2.length)) ≡ leb (new_length string1 string2 string3) string1.maximum
-    unfolding new_length
-    fit_last h =
-        leb_same string3.length (string1.maximum - (string1.length - string2.length)) (string1.length - string2.length + string3.length) string1.maximum
-        (λ z. omega arith) (λ z. omega arith)
 
 module _ (s : List ℕ) (string1 string2 string3 : StrPtr) where
   -- what is known where they find nothing
@@ -199,7 +168,5 @@ module _ (s : List ℕ) (string1 string2 string3 : StrPtr) (e : ◌≡◌ {A = �
         put_kept s string1.start at (new ++ tail) (omega (arith, good1, inside)) in
         ruled_right (replace_refusal s string1 string2 string3) to _ e (r ∙ rw made_long) t' _ s
         (second_move ∙ rw (first_move, made) ((rw new_long at b) ∙ (rw a at c)))
-
-pub ruleset part_laws = (rules, part_low, part_high, part_last, fit_short, fit_over, fit_last)
 
 pub ruleset replace_laws = (rules, replace_end, replace_sum, replace_tail, replace_to, replace_kept, replace_size, replace_done)

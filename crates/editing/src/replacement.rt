@@ -6,6 +6,7 @@ ghost use Rattle.editing.specs.Replacing.{lies_in, new_length, replace_refusal, 
 use strlib::{Refusal, StrPtr};
 
 // Whether the characters of string 2 lie among those of string 1.
+#[tactic(auto, unfolding(crate::specs::Replacing::lies_in))]
 fn lies_in(string1: StrPtr, string2: StrPtr) -> bool
     ensures { result ≡ lies_in string1 string2 }
 {
@@ -13,31 +14,19 @@ fn lies_in(string1: StrPtr, string2: StrPtr) -> bool
         return false;
     }
     let head = string2.start - string1.start;
-    if string1.length < head {
-        return false;
-    }
-    string2.length <= string1.length - head
+    head <= string1.length && string2.length <= string1.length - head
 }
 
 // Whether the result keeps to the maximum.
+#[tactic(auto, unfolding(crate::specs::Replacing::new_length))]
 fn is_fit(string1: StrPtr, string2: StrPtr, string3: StrPtr) -> bool
     ensures { result ≡ leb (new_length string1 string2 string3) string1.maximum }
 {
-    if string1.length < string2.length {
-        return string3.length <= string1.maximum;
-    }
-    let kept = string1.length - string2.length;
-    if string1.maximum < kept {
-        return false;
-    }
-    string3.length <= string1.maximum - kept
+    let kept = string1.length.saturating_sub(string2.length);
+    kept <= string1.maximum && string3.length <= string1.maximum - kept
 }
 
-#[tactic(
-    auto,
-    using(strlib::proofs::Answering::answer_laws),
-    unfolding(crate::specs::Replacing::replace_refusal)
-)]
+#[tactic(auto, using(strlib::proofs::Answering::answer_laws), unfolding(crate::specs::Replacing::replace_refusal))]
 fn check_replace(
     store: &[u8],
     string1: StrPtr,

@@ -10,12 +10,12 @@ use native.Mathlib.Omega.{arith}
 use lib.Dec.{leb, ltb}
 use lib.ListN.{length, take, drop, get_or, length-take, length-drop, length-append, drop_of_length-le}
 use native.Mathlib.Numerals.{add-one}
-use lib.Seq.{drop-cons, drop-drop, take_all, take-add, take-take, take-append-le, drop-append-le, drop_at}
+use lib.Seq.{drop-cons, drop-drop, take_all, take-add, take-take, take-append-le, drop-append-le, drop_at, get_or-take}
 use mir.Syntax.{w64}
 use mir.Val.{Fits}
 use borrow.Author.Rules.{rules}
 use borrow.Author.Tests.{le-leb, lt-leb, lt-ltb, le-ltb}
-use Rattle.std.proofs.lemmas.List.{take_rest, get_or-drop}
+use Rattle.std.proofs.lemmas.List.{get_or-drop}
 use Rattle.strlib.specs.Pointer.{sized, good_in, text_of, texts, clear, joined}
 use Rattle.strlib.specs.Store.{put}
 use Rattle.strlib.specs.declared.StrPtr.{StrPtr}
@@ -252,15 +252,18 @@ module _ (s t t' : List ℕ) (destination : StrPtr) (ps : List StrPtr) (index sk
 
 -- ---- what is left of the strings
 
-module _ (ps : List StrPtr) (index k : ℕ) where
-  abbrev rest : List StrPtr
-  rest = take (length ps - index) (drop index ps)
+module _ (ps : List StrPtr) (index m k : ℕ) where
+  abbrev part_of : List StrPtr
+  part_of = take m (drop index ps)
 
-  pub rest_at : (d : StrPtr) → get_or rest k d ≡ get_or ps (index + k) d
-  rest_at d = rw (take_rest, get_or-drop)
+  part_length : length part_of ≡ min m (length ps - index)
+  part_length = rw (length-take, length-drop)
 
-  pub rest_in : k < length rest → index + k < length ps
-  rest_in h = let l : length rest ≡ length ps - index = rw (take_rest, length-drop) in omega arith
+  pub rest_at : (d : StrPtr) → k < length part_of → get_or part_of k d ≡ get_or ps (index + k) d
+  rest_at d h = get_or-take m (drop index ps) k d (omega (arith, part_length)) ∙ get_or-drop index ps k d
 
-  pub rest_over : index ≤ length ps → length rest ≤ k → length ps ≤ index + k
-  rest_over g h = let l : length rest ≡ length ps - index = rw (take_rest, length-drop) in omega arith
+  pub rest_in : k < length part_of → index + k < length ps
+  rest_in h = omega (arith, part_length)
+
+pub rest_over : (ps : List StrPtr) (index k : ℕ) → index ≤ length ps → length (take (length ps - index) (drop index ps)) ≤ k → length ps ≤ index + k
+rest_over ps index k g h = omega (arith, part_length ps index (length ps - index) k)

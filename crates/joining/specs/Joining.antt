@@ -13,7 +13,7 @@ listed_checks s destination list count =
     ∷ (2, all (readable s) (take count list)) ∷ []
 
 -- the number that they find, 0 for none
-unfoldable pub listed_refusal : List ℕ → StrPtr → List StrPtr → ℕ → ℕ
+abbrev pub listed_refusal : List ℕ → StrPtr → List StrPtr → ℕ → ℕ
 listed_refusal s destination list count = first (listed_checks s destination list count)
 
 -- the checks of a join

@@ -6,11 +6,7 @@ ghost use Rattle.joining.specs.Joining.{join_refusal, join_rule};
 use copying::Wrote;
 use strlib::{Refusal, StrList, StrPtr};
 
-#[tactic(
-    auto,
-    using(strlib::proofs::Answering::answer_laws),
-    unfolding(crate::specs::Joining::join_refusal, crate::specs::Joining::listed_refusal)
-)]
+#[tactic(auto, using(strlib::proofs::Answering::answer_laws), unfolding(crate::specs::Joining::join_refusal))]
 fn check_join(store: &[u8], destination: StrPtr, list: &StrList) -> Result<(), Refusal>
     ensures { number_found result ≡ join_refusal store.now destination list.now.items list.now.count }
 {

@@ -33,11 +33,7 @@ pub struct Round {
 }
 
 // The checks that join and the checkpointed join begin with.
-#[tactic(
-    auto,
-    using(strlib::proofs::Answering::answer_laws),
-    unfolding(crate::specs::Joining::listed_refusal)
-)]
+#[tactic(auto, using(strlib::proofs::Answering::answer_laws))]
 fn check_listed(store: &[u8], destination: StrPtr, list: &StrList) -> Result<(), Refusal>
     ensures { number_found result ≡ listed_refusal store.now destination list.now.items list.now.count }
 {

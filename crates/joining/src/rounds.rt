@@ -18,6 +18,7 @@ fn length_at(strings: &[StrPtr], i: usize) -> usize
 }
 
 // Whether the place lies in the list or directly behind it, for any count.
+#[tactic(auto, using(crate::proofs::Placing::place_laws))]
 fn is_place(list: &StrList, from: Place) -> bool
     ensures { result ≡ place_in list.now.items list.now.count from }
 {
@@ -34,11 +35,7 @@ fn is_place(list: &StrList, from: Place) -> bool
     from.character - 1 <= length_at(list.strings(), i)
 }
 
-#[tactic(
-    auto,
-    using(strlib::proofs::Answering::answer_laws),
-    unfolding(crate::specs::Resuming::join_from_refusal, crate::specs::Joining::listed_refusal)
-)]
+#[tactic(auto, using(strlib::proofs::Answering::answer_laws), unfolding(crate::specs::Resuming::join_from_refusal))]
 fn check_join_from(
     store: &[u8],
     destination: StrPtr,

@@ -1,6 +1,6 @@
 -- Laws of what is written into a block: a turn of a loop does to one word what is left to be done to it. Assumes
 -- nothing.
-use Prim.Native.Nat.{ℕ, suc, ◌+◌, ◌-◌, ◌*◌, ◌≤◌, ◌<◌}
+use Prim.Native.Nat.{ℕ, suc, ◌+◌, ◌-◌, ◌≤◌, ◌<◌}
 use mathlib.Core.Path.{◌≡◌, refl, sym, ◌∙◌}
 use mathlib.Core.Bool.{Bool, true, false}
 use mathlib.Core.List.{List, ◌++◌, append_assoc, append-nil}
@@ -9,8 +9,6 @@ use native.Mathlib.Omega.{arith}
 use lib.Bits.{bit_and, bit_or}
 use lib.ListN.{length, take, drop, get_or, set, length-set, drop_of_length-le}
 use lib.Seq.{drop-cons, take_all, take-suc-set, drop-set-lt}
-use mir.Syntax.{w64}
-use mir.Val.{Fits}
 use borrow.Author.Rules.{rules}
 use Rattle.strlib.proofs.Texts.{character_at}
 use Rattle.charset.specs.Inner.{Ready}
@@ -53,12 +51,6 @@ module _ (text block : List ℕ) (r : Ready text block) (i : ℕ) (h : i < lengt
   pub code_small : get_or text i 0 ≤ 127
   code_small = character_at text i r.codes h
 
-  pub code_fits : Fits w64 (get_or text i 0)
-  code_fits = omega (arith, code_small)
-
-  pub code_scaled : Fits w64 (get_or text i 0 * 8)
-  code_scaled = omega (arith, code_small)
-
   pub code_word : (b : List ℕ) → length b ≡ 128 → get_or text i 0 < length b
   code_word b l = omega (arith, code_small)
 
@@ -82,8 +74,6 @@ pub ruleset turn_laws = (
   turned_none,
   turned_more,
   turned_done,
-  code_fits,
-  code_scaled,
   code_word,
   at_more,
   at_done,

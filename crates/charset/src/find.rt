@@ -40,6 +40,7 @@ fn in_tables(block: &[u64], mask: u64, x: u8) -> bool
     0 < block[i] & mask
 }
 
+// This and `last` differ in one call: one function that is passed the call as a closure is no plainer.
 fn first(text: &[u8], block: &[u64], mask: u64) -> Option<CharAt>
     requires { Ready text.now block.now }
     ensures { sought_of result ≡ found_from false block.now mask 1 text.now }

@@ -46,6 +46,7 @@ pub fn remove_characters(
     turn_characters(false, store, string, block, mask)
 }
 
+// Which of the two is a `bool`, as in the contracts' `turned on mask word`: a closure in its place is no plainer.
 fn turn(on: bool, mask: u64, word: u64) -> u64
     ensures { result ≡ turned on mask word }
 {

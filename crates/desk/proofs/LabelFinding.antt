@@ -135,5 +135,3 @@ module _ (r s : Bor (List ℕ)) (kind number : ℕ) where
 pub part_fits : (l : List ℕ) (kind number place n : ℕ) → tells (at (place, n)) ≡ find_label_rule l kind number → length l * 1 < 2 ^ 63 → (m : ℕ) → m ≤ 9
     → Fits w64 (place + m)
 part_fits l kind number place n e h m i = record { fits = omega (arith, place_within l kind number place n e) }
-
-pub ruleset part_laws = (rules, part_found, part_missing, part_refused, part_fits)

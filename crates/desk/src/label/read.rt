@@ -25,9 +25,11 @@ fn mark_of(kind: usize, number: usize) -> usize
 pub fn read_labels(list: &[u8]) -> Result<usize, Fault>
     ensures { told_by result ≡ read_labels_rule list.now }
 {
+    // a set in fixed memory: the library has no heap
     let mut met = [false; MARKS];
     let mut offset = 0;
     let mut n = 0;
+    // not a `for`: the kind of a record says where the next begins
     while offset < list.len() {
         let rest = records::rest_of(list, offset);
         records::check_body(rest).map_err(|refusal| Fault { refusal, offset })?;

@@ -26,7 +26,8 @@ fn take_line(part: &[u8], full: bool, hold: &mut [u8], out: &mut [u8], s: State)
     }
 }
 
-// Goes through a piece of the input, line by line.
+// Goes through a piece of the input, line by line, and by places, as `Walked` says how far it came: `split_inclusive`
+// has none, and leaves each line its end, which would have to be looked for and taken off again.
 fn walk(part: &[u8], hold: &mut [u8], out: &mut [u8], s: State) -> State
     requires { Ready hold.old out.old s }
     ensures { Fed s hold.old out.old part.now result hold.new out.new }

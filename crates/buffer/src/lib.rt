@@ -1,4 +1,5 @@
-// Text that is put together in a lent buffer. What has no room in the buffer is cut off.
+// Text that is put together in a lent buffer. What has no room in the buffer is cut off. The count goes beside the
+// buffer, and not with it into a struct, since each call promises this pair (`grown`), on which `program` builds.
 #![tactic(auto)]
 
 ghost use Rattle.std.specs.Prelude.{◌++◌, ◌≡◌};

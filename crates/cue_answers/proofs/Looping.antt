@@ -2,7 +2,7 @@
 use mathlib.Core.Path.{◌≡◌, refl, sym, ap, ◌∙◌}
 use mathlib.Core.Bool.{Bool, true, false, true≢false}
 use mathlib.Core.List.{List, [], ◌∷◌, ◌++◌}
-use Prim.Native.Nat.{ℕ, ◌-◌, ◌*◌, ◌≤◌, ◌<◌}
+use Prim.Native.Nat.{ℕ, ◌+◌, ◌*◌, ◌≤◌, ◌<◌}
 use native.Mathlib.Omega.{arith}
 use borrow.Author.Rules.{rules}
 use lib.IntN.{ℤ}
@@ -62,10 +62,10 @@ unfolding stage
 turns_start run p h o a = record { events = []; went = tt; room = a.last; count = refl; is = refl }
 
 pub turns_more : (run : Run) (p h o : List ℕ) (spare : ℕ) (r : Run) (h' o' : List ℕ) (b : Bool) (piece : List ℕ) (r'' : Run) (h'' o'' : List ℕ) → Room p o
-    → TurnsMade run (length p) h o spare r h' o' → 0 < spare → b ≡ is_going r.ending → b ≡ true → Turned r piece h' o' r'' h'' o'' → length piece ≡ length p
-    → TurnsMade run (length p) h o (spare - 1) r'' h'' o''
+    → TurnsMade run (length p) h o spare r h' o' → b ≡ is_going r.ending → b ≡ true → Turned r piece h' o' r'' h'' o'' → length piece ≡ length p
+    → (left : ℕ) → left + 1 ≡ spare → TurnsMade run (length p) h o left r'' h'' o''
 unfolding stage
-turns_more run p h o spare r h' o' b piece r'' h'' o'' a f g eb y t l =
+turns_more run p h o spare r h' o' b piece r'' h'' o'' a f eb y t l left k =
     let e : Event = t.event in
     let n : length e.piece ≡ length p = ap length t.read ∙ l in
     let w : is_going (ran f.events (from run h o)).run.ending ≡ true = ap (λ (x : Stage). is_going x.run.ending) (sym f.is) ∙ sym eb ∙ y in

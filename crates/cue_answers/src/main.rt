@@ -45,7 +45,7 @@ fn turn<R: Read, W: Write>(
     write_told(to, out, t)
 }
 
-// Turn after turn, until the run has ended. The turns count down from a number that no input uses up.
+// Turn after turn, until the run has ended; no input takes so many.
 fn all_turns<R: Read, W: Write>(
     from: &mut R,
     to: &mut W,
@@ -58,15 +58,11 @@ fn all_turns<R: Read, W: Write>(
     ensures { AllTurns run (length piece.old) hold.old out.old result hold.new out.new }
 {
     let mut r = run;
-    let mut turns: u64 = 18446744073709551615;
-    while 0 < turns {
-        let ending = r.ending;
-        if endings::is_going(ending) {
-            r = turn(from, to, piece, hold, out, r);
-            turns -= 1;
-        } else {
+    for _ in 0..u64::MAX {
+        if !endings::is_going(r.ending) {
             return r;
         }
+        r = turn(from, to, piece, hold, out, r);
     }
     r
 }
@@ -92,16 +88,13 @@ fn answer_file<F: Files, W: Write>(
 ) -> Ending
     ensures { OfFile out.old result out.new }
 {
-    match str::from_utf8(name) {
-        Ok(name) => match fs::File::open(files, name) {
-            Ok(file) => {
-                let mut file = file;
-                answer_all(&mut file, to, out)
-            }
-            Err(_) => Ending::Unopened,
-        },
-        Err(_) => Ending::Unopened,
-    }
+    let Ok(name) = str::from_utf8(name) else {
+        return Ending::Unopened;
+    };
+    let Ok(mut file) = fs::File::open(files, name) else {
+        return Ending::Unopened;
+    };
+    answer_all(&mut file, to, out)
 }
 
 // Says on standard error why a run is not complete; whether that could be written nobody is left to be told.
@@ -118,23 +111,18 @@ fn complain<W: Write>(
 
 // Whether there is an argument of this number, 0 being the program's own name.
 fn is_given<E: Env>(env: &E, i: usize) -> bool {
-    let mut nothing = [0u8; 0];
-    match env.arg(i, &mut nothing) {
-        Ok(_) => true,
-        Err(FillError::TooLong) => true,
-        Err(FillError::NotPresent) => false,
-    }
+    !matches!(env.arg(i, &mut []), Err(FillError::NotPresent))
 }
 
 // How many arguments there are, the program's own name among them; 3 stands for more too.
 fn argument_count<E: Env>(env: &E) -> usize {
     if !is_given(env, 1) {
-        return 1;
+        1
+    } else if !is_given(env, 2) {
+        2
+    } else {
+        3
     }
-    if !is_given(env, 2) {
-        return 2;
-    }
-    3
 }
 
 fn main(rt: HostRuntime) {

@@ -106,8 +106,6 @@ module _ (s : List ℕ) (destination source : StrPtr) (e : ◌≡◌ {A = ℕ} 0
         ruled_right _ _ _ e (rw (q, g, b)) t _ s
         (moves ∙ rw (cut) (put_kept s destination.start destination.length (take n (drop source.start s)) (omega (arith, to_room))))
 
-pub ruleset copy_laws = (rules, copy_done)
-
 pub ruleset append_laws = (rules, append_sub, append_fits, append_sum, append_done)
 
 -- ---- a padded append

@@ -6,6 +6,11 @@ ghost use Rattle.copying.specs.Copying.{copy_refusal, copy_rule, append_rule};
 use super::Wrote;
 use strlib::{Refusal, StrPtr};
 
+#[tactic(
+    auto,
+    using(strlib::proofs::Answering::answer_laws),
+    unfolding(crate::specs::Copying::copy_refusal, strlib::specs::Checks::into_refusal)
+)]
 fn check_copy(store: &[u8], destination: StrPtr, source: StrPtr) -> Result<(), Refusal>
     ensures { number_found result ≡ copy_refusal store.now destination source }
 {

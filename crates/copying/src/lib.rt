@@ -19,6 +19,7 @@ pub struct Wrote {
 }
 
 // How many blanks fill n characters to the old length.
+#[tactic(auto, unfolding(crate::specs::Copying::gap))]
 fn gap_of(pad: bool, old: usize, n: usize) -> usize
     ensures { result ≡ gap pad old n }
 {

@@ -110,26 +110,6 @@ pub ruleset cut_laws = (
 
 -- ---- the call
 
--- only trimming reads
-module _ (s : List ℕ) (p : StrPtr) (c : Cut) where
-  pub reads_relative : (a : ℕ) → c ≡ Relative a → ◌≡◌ {A = ℕ} 0 (cond (cut_reads s p c) 0 2)
-  unfolding cut_reads
-  reads_relative a e = rw e
-
-  pub reads_counted : (at n : ℕ) → c ≡ Counted at n → ◌≡◌ {A = ℕ} 0 (cond (cut_reads s p c) 0 2)
-  unfolding cut_reads
-  reads_counted at n e = rw e
-
-  pub reads_between : (pos1 pos2 : ℕ) → c ≡ Between pos1 pos2 → ◌≡◌ {A = ℕ} 0 (cond (cut_reads s p c) 0 2)
-  unfolding cut_reads
-  reads_between pos1 pos2 e = rw e
-
-  pub reads_trimmed : (r : ℕ) → c ≡ Trimmed → r ≡ cond (readable s p) 0 2 → r ≡ cond (cut_reads s p c) 0 2
-  unfolding cut_reads
-  reads_trimmed r e h = rw e h
-
-pub ruleset reads_laws = (rules, reads_relative, reads_counted, reads_between, reads_trimmed)
-
 module _ (s : List ℕ) (p : StrPtr) (c : Cut) where
   -- the checks by their names, where all are passed
   pub record CutPassed : Type 0 where

@@ -43,6 +43,7 @@ pub fn in_bounds(string: StrPtr, cut: Cut) -> bool
     }
 }
 
+#[tactic(auto, using(crate::proofs::Bounding::trim_none))]
 pub fn trimmed_length(bytes: &[u8]) -> usize
     ensures { result ≡ trimmed_length bytes.now }
 {

@@ -60,6 +60,7 @@ pub fn trim(store: &[u8], string: StrPtr) -> Result<StrPtr, Refusal>
 }
 
 // A part of a string, from `skip` behind its start.
+#[tactic(auto, unfolding(strlib::specs::Pointer::part_of))]
 fn part_of(string: StrPtr, skip: usize, n: usize, maximum: usize) -> StrPtr
     requires { Inside string skip }
     ensures { result ≡ part_of string skip n maximum }
@@ -67,6 +68,7 @@ fn part_of(string: StrPtr, skip: usize, n: usize, maximum: usize) -> StrPtr
     string.part(string.start + skip, n, maximum)
 }
 
+#[tactic(auto, unfolding(crate::specs::Cutting::second))]
 fn second_position(n: usize, pos2: usize) -> usize
     requires { n < 9223372036854775808 }
     ensures { result ≡ second n pos2 }
@@ -98,6 +100,7 @@ fn cut_of(bytes: &[u8], string: StrPtr, cut: Cut) -> StrPtr
 }
 
 // Refusal 2, which only trimming can give.
+#[tactic(auto, unfolding(crate::specs::Cutting::cut_reads))]
 fn check_reads(store: &[u8], string: StrPtr, cut: Cut) -> Result<(), Refusal>
     ensures { number_found result ≡ cond (cut_reads store.now string cut) 0 2 }
 {
@@ -107,6 +110,7 @@ fn check_reads(store: &[u8], string: StrPtr, cut: Cut) -> Result<(), Refusal>
     }
 }
 
+#[tactic(auto, using(strlib::proofs::Answering::answer_laws), unfolding(crate::specs::Cutting::cut_refusal))]
 fn check_cut(store: &[u8], string: StrPtr, cut: Cut) -> Result<(), Refusal>
     ensures { number_found result ≡ cut_refusal store.now string cut }
 {
@@ -116,6 +120,11 @@ fn check_cut(store: &[u8], string: StrPtr, cut: Cut) -> Result<(), Refusal>
     strlib::check(bounds::in_bounds(string, cut), Refusal::Position)
 }
 
+#[tactic(
+    auto,
+    using(strlib::proofs::Answering::answer_laws, crate::proofs::Making::cut_ready),
+    unfolding(crate::specs::Cutting::cut_rule, strlib::specs::Refusal::outcome)
+)]
 fn cut_string(store: &[u8], string: StrPtr, cut: Cut) -> Result<StrPtr, Refusal>
     ensures { answered result ≡ cut_rule store.now string cut }
 {

@@ -64,6 +64,7 @@ pub enum DeskLabel {
     House(StrPtr),
 }
 
+#[tactic(auto, using(crate::proofs::Slicing::label_laws))]
 pub fn label_place(production: &[u8], house: &[u8]) -> DeskLabel
     ensures { result ≡ label_place production.now house.now }
 {

@@ -33,6 +33,11 @@ fn is_fit(string1: StrPtr, string2: StrPtr, string3: StrPtr) -> bool
     string3.length <= string1.maximum - kept
 }
 
+#[tactic(
+    auto,
+    using(strlib::proofs::Answering::answer_laws),
+    unfolding(crate::specs::Replacing::replace_refusal)
+)]
 fn check_replace(
     store: &[u8],
     string1: StrPtr,

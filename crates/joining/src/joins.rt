@@ -6,6 +6,11 @@ ghost use Rattle.joining.specs.Joining.{join_refusal, join_rule};
 use copying::Wrote;
 use strlib::{Refusal, StrList, StrPtr};
 
+#[tactic(
+    auto,
+    using(strlib::proofs::Answering::answer_laws),
+    unfolding(crate::specs::Joining::join_refusal, crate::specs::Joining::listed_refusal)
+)]
 fn check_join(store: &[u8], destination: StrPtr, list: &StrList) -> Result<(), Refusal>
     ensures { number_found result ≡ join_refusal store.now destination list.now.items list.now.count }
 {
@@ -24,6 +29,5 @@ pub fn join(
 {
     check_join(store, destination, list)?;
     let round = super::fill(store, destination, list.strings(), 0, 0);
-    let to = round.to;
-    Ok(copying::finish(store, destination, to.length, pad, round.completed))
+    Ok(copying::finish(store, destination, round.to.length, pad, round.completed))
 }

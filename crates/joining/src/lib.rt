@@ -33,6 +33,11 @@ pub struct Round {
 }
 
 // The checks that join and the checkpointed join begin with.
+#[tactic(
+    auto,
+    using(strlib::proofs::Answering::answer_laws),
+    unfolding(crate::specs::Joining::listed_refusal)
+)]
 fn check_listed(store: &[u8], destination: StrPtr, list: &StrList) -> Result<(), Refusal>
     ensures { number_found result ≡ listed_refusal store.now destination list.now.items list.now.count }
 {
@@ -43,19 +48,11 @@ fn check_listed(store: &[u8], destination: StrPtr, list: &StrList) -> Result<(),
     strlib::check_all_readable(store, list)
 }
 
-fn round_at(
-    destination: StrPtr,
-    n: usize,
-    completed: bool,
-    string: usize,
-    character: usize,
-) -> Round
-    ensures { result ≡ record { to = sized destination n; completed = completed; next = record { string = string; character = character } } }
+fn round_at(destination: StrPtr, n: usize, completed: bool, next: Place) -> Round
+    ensures { result ≡ record { to = sized destination n; completed = completed; next = next } }
 {
-    let to = destination.sized(n);
-    let next = Place { string, character };
     Round {
-        to,
+        to: destination.sized(n),
         completed,
         next,
     }
@@ -93,9 +90,17 @@ fn fill(
         n += m;
         q += m;
         if q < source.length {
-            return round_at(destination, n, false, index + i + 1, q + 1);
+            let next = Place {
+                string: index + i + 1,
+                character: q + 1,
+            };
+            return round_at(destination, n, false, next);
         }
         q = 0;
     }
-    round_at(destination, n, true, strings.len() + 1, 1)
+    let next = Place {
+        string: strings.len() + 1,
+        character: 1,
+    };
+    round_at(destination, n, true, next)
 }

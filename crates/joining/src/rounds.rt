@@ -7,13 +7,13 @@ use super::{Place, Round};
 use strlib::{Refusal, StrList, StrPtr};
 
 // The length of the string at an index; 0 past the last.
+#[tactic(auto, using(crate::proofs::Placing::length_in, crate::proofs::Placing::length_past))]
 fn length_at(strings: &[StrPtr], i: usize) -> usize
     ensures { result ≡ length_at strings.now i }
 {
-    if i < strings.len() {
-        strings[i].length
-    } else {
-        0
+    match strings.get(i) {
+        Some(p) => p.length,
+        None => 0,
     }
 }
 
@@ -34,6 +34,11 @@ fn is_place(list: &StrList, from: Place) -> bool
     from.character - 1 <= length_at(list.strings(), i)
 }
 
+#[tactic(
+    auto,
+    using(strlib::proofs::Answering::answer_laws),
+    unfolding(crate::specs::Resuming::join_from_refusal, crate::specs::Joining::listed_refusal)
+)]
 fn check_join_from(
     store: &[u8],
     destination: StrPtr,

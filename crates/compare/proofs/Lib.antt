@@ -1,4 +1,3 @@
-pub mod Table
 pub mod Whole
 pub mod Ordering
 pub mod Extending

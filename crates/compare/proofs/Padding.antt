@@ -200,24 +200,8 @@ module _ (xs ys : List ℕ) where
       pub order_here : (a ≡ b → ⊥) → (r : ℕ) → r ≡ order_n a b → r ≡ padded_order xs ys
       order_here g r p = p ∙ rw (e, f) (sym (at_place xs ys i s.same (λ z. g (e ∙ z ∙ sym f))))
 
-    -- where both have a character
-    module _ (n : ℕ) (e : n ≡ min (length xs) (length ys)) (h : i < n) where
-      x_in : get_or xs i 0 ≡ get_or xs i 32
-      x_in = padded_in xs i (omega arith)
-
-      y_in : get_or ys i 0 ≡ get_or ys i 32
-      y_in = padded_in ys i (omega arith)
-
-      pub same_both : get_or xs i 0 ≡ get_or ys i 0 → SameTo xs ys (i + 1)
-      same_both g = same_more (get_or xs i 0) (get_or ys i 0) x_in y_in g
-
-      pub order_both : (get_or xs i 0 ≡ get_or ys i 0 → ⊥) → (r : ℕ) → r ≡ order_n (get_or xs i 0) (get_or ys i 0) → r ≡ padded_order xs ys
-      order_both g r p = order_here (get_or xs i 0) (get_or ys i 0) x_in y_in g r p
-
     pub order_end : (n : ℕ) → n ≡ max (length xs) (length ys) → n ≤ i → 1 ≡ padded_order xs ys
     order_end n e h =
         sym (equal_order xs ys (λ j. either i j (λ (k : i ≤ j). both_past xs ys j (omega arith)) (λ (k : j < i). s.same j k)))
-
-pub ruleset both_laws = (rules, same_none, same_both, order_both)
 
 pub ruleset order_laws = (rules, padded_in, padded_past, same_more, order_here, order_end)

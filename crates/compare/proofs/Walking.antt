@@ -55,41 +55,62 @@ ne_one Greater e h = omega arith
 
 -- ---- what a code asks of an order
 
-pub mark_0 : (o : Ordering) → is_eq o ≡ holds 0 (ordering_index o)
+asks_0 : (o : Ordering) → is_eq o ≡ holds 0 (ordering_index o)
 unfolding holds
-mark_0 Less = refl
-mark_0 Equal = refl
-mark_0 Greater = refl
+asks_0 Less = refl
+asks_0 Equal = refl
+asks_0 Greater = refl
 
-pub mark_1 : (o : Ordering) → is_ne o ≡ holds 1 (ordering_index o)
+asks_1 : (o : Ordering) → is_ne o ≡ holds 1 (ordering_index o)
 unfolding holds
-mark_1 Less = refl
-mark_1 Equal = refl
-mark_1 Greater = refl
+asks_1 Less = refl
+asks_1 Equal = refl
+asks_1 Greater = refl
 
-pub mark_2 : (o : Ordering) → is_ge o ≡ holds 2 (ordering_index o)
+asks_2 : (o : Ordering) → is_ge o ≡ holds 2 (ordering_index o)
 unfolding holds
-mark_2 Less = refl
-mark_2 Equal = refl
-mark_2 Greater = refl
+asks_2 Less = refl
+asks_2 Equal = refl
+asks_2 Greater = refl
 
-pub mark_3 : (o : Ordering) → is_le o ≡ holds 3 (ordering_index o)
+asks_3 : (o : Ordering) → is_le o ≡ holds 3 (ordering_index o)
 unfolding holds
-mark_3 Less = refl
-mark_3 Equal = refl
-mark_3 Greater = refl
+asks_3 Less = refl
+asks_3 Equal = refl
+asks_3 Greater = refl
 
-pub mark_4 : (o : Ordering) → is_gt o ≡ holds 4 (ordering_index o)
+asks_4 : (o : Ordering) → is_gt o ≡ holds 4 (ordering_index o)
 unfolding holds
-mark_4 Less = refl
-mark_4 Equal = refl
-mark_4 Greater = refl
+asks_4 Less = refl
+asks_4 Equal = refl
+asks_4 Greater = refl
 
-pub mark_5 : (o : Ordering) → is_lt o ≡ holds 5 (ordering_index o)
+asks_5 : (o : Ordering) → is_lt o ≡ holds 5 (ordering_index o)
 unfolding holds
-mark_5 Less = refl
-mark_5 Equal = refl
-mark_5 Greater = refl
+asks_5 Less = refl
+asks_5 Equal = refl
+asks_5 Greater = refl
+
+module _ (code : ℕ) (o : Ordering) (b : Bool) where
+  pub mark_0 : code ≡ 0 → b ≡ is_eq o → b ≡ holds code (ordering_index o)
+  mark_0 e h = h ∙ rw e (asks_0 o)
+
+  pub mark_1 : code ≡ 1 → b ≡ is_ne o → b ≡ holds code (ordering_index o)
+  mark_1 e h = h ∙ rw e (asks_1 o)
+
+  pub mark_2 : code ≡ 2 → b ≡ is_ge o → b ≡ holds code (ordering_index o)
+  mark_2 e h = h ∙ rw e (asks_2 o)
+
+  pub mark_3 : code ≡ 3 → b ≡ is_le o → b ≡ holds code (ordering_index o)
+  mark_3 e h = h ∙ rw e (asks_3 o)
+
+  pub mark_4 : code ≡ 4 → b ≡ is_gt o → b ≡ holds code (ordering_index o)
+  mark_4 e h = h ∙ rw e (asks_4 o)
+
+  pub mark_5 : code ≡ 5 → b ≡ is_lt o → b ≡ holds code (ordering_index o)
+  mark_5 e h = h ∙ rw e (asks_5 o)
+
+pub ruleset mark_laws = (rules, mark_0, mark_1, mark_2, mark_3, mark_4, mark_5)
 
 -- ---- texts cut to the same length: a place tells, or none does
 

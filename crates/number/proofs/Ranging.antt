@@ -69,49 +69,6 @@ signed_out false v h = lt-leb v 34359738367 (omega arith)
 
 -- ---- the magnitude
 
-neg_mag : (z : ℤ) → mag (neg_ℤ z) ≤ suc (mag z)
-neg_mag (pos zero) = omega arith
-neg_mag (pos (suc n)) = omega arith
-neg_mag (negsuc n) = omega arith
-
-neg_abs : (z : ℤ) → nat_abs (neg_ℤ z) ≡ nat_abs z
-neg_abs (pos zero) = refl
-neg_abs (pos (suc n)) = refl
-neg_abs (negsuc n) = refl
-
 pub abs_mag : (z : ℤ) → nat_abs z ≤ suc (mag z)
 abs_mag (pos n) = omega arith
 abs_mag (negsuc n) = omega arith
-
-neg_non_neg : (z : ℤ) → lt_z z (pos 0) ≡ true → T (non_neg (neg_ℤ z))
-neg_non_neg (pos zero) e = tt
-neg_non_neg (pos (suc n)) e = absurd (omega (arith, ltb-true (suc n) 0 e))
-neg_non_neg (negsuc n) e = tt
-
-non_neg_not : (z : ℤ) → lt_z z (pos 0) ≡ false → T (non_neg z)
-non_neg_not (pos n) e = tt
-non_neg_not (negsuc n) e = absurd (true≢false e)
-
--- a local holds the bits of z
-module _ (z : ℤ) (f : SFits w64 z) (r : in_range z ≡ true) where
-  turned_is : pos 0 -ℤ to_z w64 (of_z w64 z) ≡ neg_ℤ z
-  turned_is = rw (to_z-of_z f) (+ℤ_idl (neg_ℤ z))
-
-  pub turned_fits : SFits w64 (pos 0 -ℤ to_z w64 (of_z w64 z))
-  turned_fits = rw turned_is (record { sfits = omega (arith, neg_mag z, range_mag z r) })
-
-  turned_held : to_z w64 (of_z w64 (pos 0 -ℤ to_z w64 (of_z w64 z))) ≡ neg_ℤ z
-  turned_held = to_z-of_z turned_fits ∙ turned_is
-
-  pub turned_cast : lt_z (to_z w64 (of_z w64 z)) (pos 0) ≡ true
-      → T (non_neg (to_z w64 (of_z w64 (pos 0 -ℤ to_z w64 (of_z w64 z))))) × Fits w64 (nat_abs (to_z w64 (of_z w64 (pos 0 -ℤ to_z w64 (of_z w64 z)))))
-  turned_cast t = rw turned_held (neg_non_neg z (rw (to_z-of_z f) at t), record { fits = omega (arith, neg_abs z, abs_mag z, range_mag z r) })
-
-  pub turned_abs : nat_abs (to_z w64 (of_z w64 (pos 0 -ℤ to_z w64 (of_z w64 z)))) ≡ nat_abs z
-  turned_abs = rw turned_held (neg_abs z)
-
-  pub plain_cast : lt_z (to_z w64 (of_z w64 z)) (pos 0) ≡ false → T (non_neg (to_z w64 (of_z w64 z))) × Fits w64 (nat_abs (to_z w64 (of_z w64 z)))
-  plain_cast t = rw (to_z-of_z f) (non_neg_not z (rw (to_z-of_z f) at t), record { fits = omega (arith, abs_mag z, range_mag z r) })
-
-  pub plain_abs : nat_abs (to_z w64 (of_z w64 z)) ≡ nat_abs z
-  plain_abs = rw (to_z-of_z f)

@@ -1,73 +1,106 @@
 -- Laws of writing a text: the digits put so far and those of the quotient make up the whole. Assumes nothing.
-use mathlib.Core.Path.{◌≡◌, refl, ◌∙◌}
+use mathlib.Core.Path.{◌≡◌, refl, sym, subst, ◌∙◌}
 use mathlib.Core.Bool.{true, false, cond}
 use mathlib.Core.List.{List, [], ◌∷◌, ◌++◌}
-use Prim.Native.Nat.{ℕ, suc, ◌+◌, ◌-◌, ◌/◌, ◌%◌, ◌≤◌, ◌<◌}
-use native.Mathlib.Nat.{mod-lt, div-le_self}
+use Prim.Native.Nat.{ℕ, zero, suc, ◌+◌, ◌-◌, ◌/◌, ◌%◌, ◌≤◌, ◌<◌}
+use native.Mathlib.Nat.{mod-lt, mod-eq_of_lt, div-le_self}
 use native.Mathlib.Omega.{arith}
 use lib.IntN.{ℤ, pos, negsuc, nat_abs}
-use lib.ListN.{length, set, length-append}
+use lib.ListN.{length, set, length-append, length-set}
 use lib.Signed.{lt_z}
 use mir.Syntax.{w64}
 use mir.Val.{Fits}
 use borrow.Author.Rules.{rules}
 use borrow.Author.Tests.{le-ltb}
-use Rattle.strlib.proofs.Storing.{set_put, put_put, put_before}
+use Rattle.strlib.proofs.Storing.{set_put, put_put, put_before, put_none}
+use Rattle.strlib.proofs.Pointing.{either}
 use Rattle.strlib.specs.Store.{put}
 use Rattle.number.proofs.Ranging.{base_is, range_mag, abs_mag}
-use Rattle.number.proofs.Counting.{digits_some, digits_few, digits_one, digits_more, base_some, quotient_smaller}
+use Rattle.number.proofs.Counting.{digits_some, digits_few, digits_one, digits_more, base_some}
 use Rattle.number.specs.Limits.{is_base, in_range}
 use Rattle.number.specs.Written.{digits, sign, written}
 use Rattle.number.specs.Inner.{Countable, Room, TextRoom}
 
--- ---- digits, from the last to the first: m is the quotient so far and t the store, s the store at first
+-- ---- digits, from the last to the first: m is the quotient so far, of which j digits are left to put
 
-module _ (s : List ℕ) (base n count at size : ℕ) (k : Room base n count at size) where
+abbrev pub left : (base j m : ℕ) → List ℕ
+left base zero m = []
+left base (suc j) m = digits base m
+
+pub left_all : (base n count : ℕ) → count ≡ length (digits base n) → left base count n ≡ digits base n
+left_all base n zero e = absurd (omega (arith, e, digits_some base n))
+left_all base n (suc k) e = refl
+
+-- the last of them is the remainder, and those before it are left of the quotient
+module _ (base : ℕ) (g : is_base base ≡ true) (m : ℕ) (h : m < 68719476736) where
+  left_more : (j : ℕ) → length (digits base m) ≡ suc j → digits base m ≡ left base j (m / base) ++ ((48 + m % base) ∷ [])
+  left_more zero e =
+      either base m
+      (λ (l : base ≤ m). absurd (omega (arith, digits_some base (m / base), (rw (digits_more base g m l h, length-append) at e))))
+      (λ (l : m < base). digits_one base m l ∙ rw (mod-eq_of_lt l))
+  left_more (suc j) e =
+      either base m
+      (λ (l : base ≤ m). digits_more base g m l h)
+      (λ (l : m < base). absurd (omega (arith, (rw (digits_one base m l) at e))))
+
+  left_count : (j : ℕ) → length (digits base m) ≡ suc j → length (left base j (m / base)) ≡ j
+  left_count j e = let c : length (left base j (m / base)) + 1 ≡ suc j = (rw (left_more j e, length-append) at e) in omega arith
+
+pub record Putting (s : List ℕ) (base n at : ℕ) (t : List ℕ) (m j : ℕ) : Type 0 where
+  pub small : m < 68719476736
+  pub same : length t ≡ length s
+  pub room : at + j ≤ length s
+  pub counted : length (left base j m) ≡ j
+  pub stored : put t at (left base j m) ≡ put s at (digits base n)
+
+module _ (s : List ℕ) (base n count at : ℕ) (k : Room base n count at (length s)) where
   pub divisor_some : 0 < base
   divisor_some = base_some base n k.able
 
   pub rest_small : (m : ℕ) → m % base < 10
   rest_small m = let b = base_is base k.able.based in omega (arith, mod-lt m {m = base} (omega arith))
 
-  pub first_small : (m : ℕ) → m < base → m < 10
-  first_small m l = omega (arith, base_is base k.able.based)
+  pub put_start : Putting s base n at s n count
+  put_start =
+      record {
+        small = k.able.small;
+        same = refl;
+        room = k.room;
+        counted = rw (left_all base n count k.counted) (sym k.counted);
+        stored = rw (left_all base n count k.counted);
+      }
 
-  pub quotient_below : (m : ℕ) → base ≤ m → m / base < m
-  quotient_below m l = quotient_smaller base n k.able m l
+  module _ (t : List ℕ) (m j : ℕ) (p : Putting s base n at t m j) where
+    pub place_in : 0 < j → at + (j - 1) < length t
+    place_in h = omega (arith, p.same, p.room)
 
-  module _ (t : List ℕ) (m j : ℕ) (h : m < 68719476736) (ej : j ≡ length (digits base m)) (same : length t ≡ length s) (room : at + j ≤ length s) where
-    pub digit_left : 1 ≤ j
-    digit_left = omega (arith, digits_some base m)
+    step : (i d : ℕ) → Putting s base n at t m (suc i) → d ≡ 48 + m % base → Putting s base n at (set t (at + i) d) (m / base) i
+    step i d q e =
+        let f = left_more base k.able.based m q.small i q.counted in
+        let c = left_count base k.able.based m q.small i q.counted in
+        let r : List ℕ = left base i (m / base) in
+        let z : at + i < length t = omega (arith, q.same, q.room) in
+        let b : put (put t (at + i) ((48 + m % base) ∷ [])) at r ≡ put t at (r ++ ((48 + m % base) ∷ [])) =
+        rw c at (put_before t at r ((48 + m % base) ∷ []) (omega (arith, c, z))) in
+        record {
+          small = omega (arith, q.small, div-le_self m base);
+          same = simp length-set q.same;
+          room = omega (arith, q.room);
+          counted = c;
+          stored = rw (e, set_put t (at + i) (48 + m % base) z) (b ∙ (rw f at q.stored));
+        }
 
-    pub place_in : at + (j - 1) < length t
-    place_in = omega (arith, digits_some base m)
+    pub put_step : 0 < j → (d : ℕ) → d ≡ 48 + m % base → Putting s base n at (set t (at + (j - 1)) d) (m / base) (j - 1)
+    put_step h d e =
+        let z : j ≡ suc (j - 1) = omega (arith, h) in
+        step (j - 1) d (subst (λ (i : ℕ). Putting s base n at t m i) z p) e
 
-    pub front_in : at < length t
-    front_in = omega (arith, digits_some base m)
+    pub put_end : j ≤ 0 → t ≡ put s at (digits base n)
+    put_end h =
+        let z : j ≡ 0 = omega (arith, h) in
+        sym (put_none t at) ∙ (subst (λ (i : ℕ). Putting s base n at t m i) z p).stored
 
-    module _ (d : ℕ) (e : put t at (digits base m) ≡ put s at (digits base n)) where
-      module _ (l : base ≤ m) where
-        last : digits base m ≡ digits base (m / base) ++ ((48 + m % base) ∷ [])
-        last = digits_more base k.able.based m l h
-
-        pub put_count : j - 1 ≡ length (digits base (m / base))
-        put_count = let c : length (digits base m) ≡ length (digits base (m / base)) + 1 = rw (last, length-append) in omega arith
-
-        pub put_small : m / base < 68719476736
-        put_small = omega (arith, div-le_self m base)
-
-        pub put_step : d ≡ 48 + m % base → put (set t (at + (j - 1)) d) at (digits base (m / base)) ≡ put s at (digits base n)
-        put_step ed =
-            let q : List ℕ = digits base (m / base) in
-            rw (put_count, ed)
-            (rw (set_put t (at + length q) (48 + m % base) (omega (arith, put_count, digit_left)))
-            (put_before t at q ((48 + m % base) ∷ []) (omega (arith, put_count, digit_left)) ∙ rw (last) at e))
-
-      pub put_last : m < base → d ≡ 48 + m → set t at d ≡ put s at (digits base n)
-      put_last l ed = rw ed (set_put t at (48 + m) front_in ∙ (rw (digits_one base m l) at e))
-
-pub ruleset put_laws =
-    (rules, divisor_some, rest_small, first_small, quotient_below, digit_left, place_in, front_in, put_count, put_small, put_step, put_last)
+pub ruleset put_laws = (rules, divisor_some, rest_small, put_start, place_in, put_step, put_end)
 
 -- ---- the text
 

@@ -53,13 +53,10 @@ fn put_digits(store: &mut [u8], at: usize, n: usize, base: usize, count: usize)
     ensures { store.new ≡ put store.old at (digits base n) }
 {
     let mut m = n;
-    let mut j = count;
-    while base <= m {
-        j -= 1;
+    for j in (0..count).rev() {
         store[at + j] = digit(m % base);
-        m = m / base;
+        m /= base;
     }
-    store[at] = digit(m);
 }
 
 // Puts the text of a number, `count` characters, from index `at` on.

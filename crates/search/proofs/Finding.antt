@@ -1,53 +1,20 @@
--- Laws of finding. The first string that stands in front, by a test of each; and where p characters were passed, what is
--- left to search is the rest of the host. Assumes nothing.
-use Rattle.std.proofs.Common.{ℕ, zero, suc, ◌+◌, ◌-◌, ◌≤◌, ◌<◌, ◌≡◌, refl, sym, ◌∙◌, Bool, true, false, cond, not, List, [], ◌∷◌, length, take, drop, get_or, length-drop, Some, None, ltb, leb, zero-add, arith}
-use Rattle.std.specs.List.{position_or_len}
+-- Laws of finding: the listed strings are tried one by one, and where p characters were passed, what is left to search
+-- is the rest of the host. Assumes nothing.
+use Rattle.std.proofs.Common.{ℕ, zero, suc, ◌+◌, ◌-◌, ◌≤◌, ◌<◌, ◌≡◌, refl, sym, ◌∙◌, Bool, true, false, cond, List, [], ◌∷◌, length, take, drop, get_or, length-drop, leb, eqb, zero-add, arith}
+use Rattle.std.specs.Cmp.Lexicographic.{pointwise}
+use Rattle.search.proofs.Prefixes.{prefix_starts}
 use Rattle.std.proofs.lemmas.List.{drop-drop, take_rest}
-use borrow.Author.Tests.{le-leb, lt-leb, lt-ltb}
+use borrow.Author.Tests.{le-leb, lt-leb}
 use Rattle.strlib.proofs.Pointing.{leb_same}
 use Rattle.strlib.proofs.Texts.{listed_text, texts_long}
 use Rattle.strlib.specs.Pointer.{text_of, texts}
 use Rattle.strlib.specs.Refusal.{nowhere, at}
 use Rattle.strlib.specs.declared.StrPtr.{StrPtr}
-use Rattle.search.specs.Search.{is_prefix, first_number, further, closed, length_of, Result, nothing, found, onward, plain_search}
+use Rattle.search.specs.Search.{is_prefix, closed, length_of, Result, nothing, found, onward, plain_search}
 use Rattle.search.specs.Rule.{given}
-use Rattle.search.specs.Inner.{number_of}
 
--- ---- the string in front
+-- ---- the strings tried one by one
 
--- an index found among strings behind one more
-behind : (r n k : ℕ) → number_of (cond (ltb r n) (Some r) None) ≡ k → number_of (cond (ltb (1 + r) (suc n)) (Some (1 + r)) None) ≡ further k
-behind r n k e = let same : ltb (1 + r) (suc n) ≡ ltb r n = leb_same (suc (1 + r)) (suc n) (suc r) n (λ z. omega arith) (λ z. omega arith) in rw same (go (ltb r n) e)
-  where
-    go : (b : Bool) → number_of (cond b (Some r) None) ≡ k → number_of (cond b (Some (1 + r)) None) ≡ further k
-    go true e = rw (← e) (omega arith)
-    go false e = rw (← e)
-
-pub closed_position : (s w : List ℕ) (ps : List StrPtr)
-    → number_of (cond (ltb (position_or_len (λ p. is_prefix (text_of s p) w) ps) (length ps)) (Some (position_or_len (λ p. is_prefix (text_of s p) w) ps)) None)
-    ≡ closed (texts s ps) w
-unfolding texts
-closed_position s w [] = refl
-closed_position s w (p ∷ ps) = go (is_prefix (text_of s p) w) (position_or_len (λ p. is_prefix (text_of s p) w) ps) (closed_position s w ps)
-  where
-    go : (b : Bool) (r : ℕ) → number_of (cond (ltb r (length ps)) (Some r) None) ≡ closed (texts s ps) w
-        → number_of (cond (ltb (cond (not b) (1 + r) 0) (suc (length ps))) (Some (cond (not b) (1 + r) 0)) None) ≡ first_number b (closed (texts s ps) w)
-    go true r e = rw (lt-ltb 0 (suc (length ps)) (omega arith))
-    go false r e = behind r (length ps) (closed (texts s ps) w) e
-
-closed_under : (ss : List (List ℕ)) (w : List ℕ) → closed ss w ≤ length ss
-closed_under [] w = omega arith
-closed_under (s ∷ ss) w = go (is_prefix s w) (closed ss w) (closed_under ss w)
-  where
-    go : (b : Bool) (k : ℕ) → k ≤ length ss → first_number b k ≤ suc (length ss)
-    go true k h = omega arith
-    go false zero h = omega arith
-    go false (suc k) h = omega arith
-
-pub closed_at : (s : List ℕ) (ps : List StrPtr) (w : List ℕ) (k : ℕ) → suc k ≡ closed (texts s ps) w → k < length ps
-closed_at s ps w k e = omega (arith, closed_under (texts s ps) w, texts_long s ps)
-
--- the strings tried one by one
 pub none_closed : (ss : List (List ℕ)) (w : List ℕ) → ((k : ℕ) → k < length ss → is_prefix (get_or ss k []) w ≡ false) → closed ss w ≡ 0
 none_closed [] w f = refl
 none_closed (s ∷ ss) w f = rw (f 0 (omega arith), none_closed ss w (λ k h. f (suc k) (omega arith)))
@@ -104,25 +71,32 @@ module _ (ss : List (List ℕ)) (h : List ℕ) where
     unfolding Passed
     here = o ∙ rw (le-leb p (length h) m)
 
-    pub passed_more : 0 ≡ closed ss (take (length h - p) (drop p h)) → Passed ss h (p + 1)
+    pub passed_more : ((k : ℕ) → k < length ss → is_prefix (get_or ss k []) (take (length h - p) (drop p h)) ≡ false) → Passed ss h (p + 1)
     unfolding Passed
-    passed_more q =
-        let e : closed ss (drop p h) ≡ 0 = sym (rw take_rest at q) in
+    passed_more f =
+        let e : closed ss (drop p h) ≡ 0 = rw take_rest at (none_closed ss (take (length h - p) (drop p h)) f) in
         let g : leb 1 (length (drop p h)) ≡ leb (p + 1) (length h) = rw length-drop (leb_same 1 (length h - p) (p + 1) (length h) (λ z. omega arith) (λ z. omega arith)) in
         here ∙ search_on ss p (drop p h) e ∙ rw (g, drop-drop)
 
-    passed_hit : (k : ℕ) → closed ss (drop p h) ≡ suc k → plain_search ss h ≡ found (suc k) (p + 1) (p + suc (length_of ss (suc k)))
+    pub passed_hit : (k : ℕ) → closed ss (drop p h) ≡ suc k → plain_search ss h ≡ found (suc k) (p + 1) (p + suc (length_of ss (suc k)))
     passed_hit k e = here ∙ search_here ss p (drop p h) k e
 
--- the string found, whose characters are x
-module _ (s : List ℕ) (ps : List StrPtr) (h : List ℕ) (p : ℕ) (o : Passed (texts s ps) h p) (m : p ≤ length h) where
-  pub find_hit : {A : Type 0} (f : ℕ → ℕ → ℕ → A) (k : ℕ) (d : StrPtr) (x : List ℕ) → x ≡ text_of s (get_or ps k d) → suc k ≡ closed (texts s ps) (take (length h - p) (drop p h))
+-- a listed string, whose characters are x, is tried where p characters were passed
+module _ (s : List ℕ) (ps : List StrPtr) (h : List ℕ) (p k : ℕ) (i : k < length ps) (l : List StrPtr) (el : l ≡ ps) (d : StrPtr) (x : List ℕ) (q : x ≡ text_of s (get_or l k d))
+    (b : Bool) (e : b ≡ pointwise eqb x (take (length x) (take (length h - p) (drop p h)))) where
+  stands : x ≡ get_or (texts s ps) k []
+  stands = q ∙ rw el (sym (listed_text s ps k d i))
+
+  pub tried_is : is_prefix (get_or (texts s ps) k []) (take (length h - p) (drop p h)) ≡ b
+  tried_is = rw (← stands) (sym (prefix_starts x (take (length h - p) (drop p h)) b e))
+
+  pub find_hit : {A : Type 0} (f : ℕ → ℕ → ℕ → A) → Passed (texts s ps) h p → p ≤ length h → b ≡ true
+      → ((j : ℕ) → j < k → is_prefix (get_or (texts s ps) j []) (take (length h - p) (drop p h)) ≡ false)
       → at (f (k + 1) (p + 1) (p + length x + 1)) ≡ given f (plain_search (texts s ps) h)
   unfolding given
-  find_hit f k d x q n =
-      let e : suc k ≡ closed (texts s ps) (drop p h) = rw take_rest at n in
-      let i : k < length ps = closed_at s ps (drop p h) k e in
-      let g : get_or (texts s ps) k [] ≡ x = listed_text s ps k d i ∙ sym q in
+  find_hit f o m t before =
+      let n : closed (texts s ps) (drop p h) ≡ suc k
+      = rw take_rest at (first_closed (texts s ps) (take (length h - p) (drop p h)) k (omega (arith, texts_long s ps)) (tried_is ∙ t) before) in
       let j : k + 1 ≡ suc k = omega arith in
       let y : p + length x + 1 ≡ p + suc (length x) = omega arith in
-      rw (passed_hit (texts s ps) h p o m k (sym e), g, j, y)
+      rw (passed_hit (texts s ps) h p o m k n, ← stands, j, y)

@@ -1,5 +1,5 @@
 -- What the functions inside the crate promise one another; `placed` serves the table's run. Assumes nothing.
-use Rattle.std.specs.Prelude.{ℕ, zero, suc, ◌+◌, ◌≤◌, Option, Some, None}
+use Rattle.std.specs.Prelude.{ℕ, zero, suc, ◌+◌, ◌≤◌}
 use Rattle.strlib.specs.declared.StrPtr.{StrPtr}
 use Rattle.search.specs.Search.{Result, nothing, found}
 use Rattle.search.specs.declared.find.Spot.{Spot}
@@ -12,11 +12,6 @@ placed (suc j) pos1 pos2 = found (suc j) pos1 pos2
 -- the same as the code holds it where something is found
 abbrev pub spot : ℕ → ℕ → ℕ → Spot
 spot j pos1 pos2 = record { number = j; pos1 = pos1; pos2 = pos2 }
-
--- a string's number from its index, 0 for none
-abbrev pub number_of : Option ℕ → ℕ
-number_of None = 0
-number_of (Some k) = suc k
 
 -- what the code asks before it makes pointers: two positions of the host in their order, in a room whose end a store
 -- may have

@@ -2,8 +2,8 @@
 ghost use Rattle.std.specs.Prelude.{◌≡◌, take};
 ghost use Rattle.strlib.specs.Pointer.{texts};
 ghost use Rattle.strlib.specs.Refusal.{number_found, sought_of, sought_answered};
-ghost use Rattle.search.specs.Search.{closed, plain_search};
-ghost use Rattle.search.specs.Inner.{number_of, spot};
+ghost use Rattle.search.specs.Search.{plain_search};
+ghost use Rattle.search.specs.Inner.{spot};
 ghost use Rattle.search.specs.Rule.{search_refusal, given, search_by};
 
 use strlib::{Refusal, StrList, StrPtr};
@@ -16,30 +16,26 @@ pub struct Spot {
     pub pos2: usize,
 }
 
-// The index of the first listed string whose characters stand at the front of a text.
-fn first_in_front(store: &[u8], text: &[u8], list: &StrList) -> Option<usize>
-    ensures { number_of result ≡ closed (texts store.now (take list.now.count list.now.items)) text.now }
-{
-    list.strings()
-        .iter()
-        .position(|p| text.starts_with(strlib::text(store, *p)))
-}
-
-// The smallest position, then the smallest number.
+// The smallest position, then the smallest number. The loops are nested and leave by a label: 01 fixes this form.
 fn find(store: &[u8], text: &[u8], list: &StrList) -> Option<Spot>
     ensures { sought_of result ≡ given spot (plain_search (texts store.now (take list.now.count list.now.items)) text.now) }
 {
-    for skipped in 0..=text.len() {
-        if let Some(k) = first_in_front(store, &text[skipped..], list) {
-            let string = strlib::text(store, list.strings()[k]);
-            return Some(Spot {
-                number: k + 1,
-                pos1: skipped + 1,
-                pos2: skipped + string.len() + 1,
-            });
+    let mut found = None;
+    'positions: for skipped in 0..=text.len() {
+        let rest = &text[skipped..];
+        for (k, p) in list.strings().iter().enumerate() {
+            let string = strlib::text(store, *p);
+            if rest.starts_with(string) {
+                found = Some(Spot {
+                    number: k + 1,
+                    pos1: skipped + 1,
+                    pos2: skipped + string.len() + 1,
+                });
+                break 'positions;
+            }
         }
     }
-    None
+    found
 }
 
 fn check_search(store: &[u8], host: StrPtr, list: &StrList) -> Result<(), Refusal>

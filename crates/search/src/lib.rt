@@ -10,6 +10,7 @@ ghost use Rattle.strlib.specs.Refusal.{sought_answered};
 ghost use Rattle.search.specs.Inner.{Within};
 ghost use Rattle.search.specs.Rule.{parts_of, split_of, search_rule, match_after_rule, before_match_rule};
 
+use find::Spot;
 use strlib::{Refusal, StrList, StrPtr};
 
 // String `number` of the list was found: what lies before it, the match, and what lies after it.
@@ -29,23 +30,23 @@ pub struct Split {
     pub back: StrPtr,
 }
 
-// The listed strings are sought in the host.
-pub fn search(store: &[u8], host: StrPtr, list: &StrList) -> Result<Option<Match>, Refusal>
-    ensures { sought_answered result ≡ search_rule store.now host list.now.items list.now.count }
+// The listed strings are sought in the host. A list comes by value: 01 fixes this form.
+pub fn search(store: &[u8], host: StrPtr, list: StrList) -> Result<Option<Match>, Refusal>
+    ensures { sought_answered result ≡ search_rule store.now host list.items list.count }
 {
-    let found = find::find_listed(store, host, list)?;
-    Ok(found.map(|place| parts_of(host, place.number, place.pos1, place.pos2)))
+    let found = find::find_listed(store, host, &list)?;
+    Ok(found.map(|place| parts_of(host, place)))
 }
 
 // The same, giving before, and match with after.
 pub fn search_match_after(
     store: &[u8],
     host: StrPtr,
-    list: &StrList,
+    list: StrList,
 ) -> Result<Option<Split>, Refusal>
-    ensures { sought_answered result ≡ match_after_rule store.now host list.now.items list.now.count }
+    ensures { sought_answered result ≡ match_after_rule store.now host list.items list.count }
 {
-    let found = find::find_listed(store, host, list)?;
+    let found = find::find_listed(store, host, &list)?;
     Ok(found.map(|place| split_of(host, place.number, place.pos1)))
 }
 
@@ -53,11 +54,11 @@ pub fn search_match_after(
 pub fn search_before_match(
     store: &[u8],
     host: StrPtr,
-    list: &StrList,
+    list: StrList,
 ) -> Result<Option<Split>, Refusal>
-    ensures { sought_answered result ≡ before_match_rule store.now host list.now.items list.now.count }
+    ensures { sought_answered result ≡ before_match_rule store.now host list.items list.count }
 {
-    let found = find::find_listed(store, host, list)?;
+    let found = find::find_listed(store, host, &list)?;
     Ok(found.map(|place| split_of(host, place.number, place.pos2)))
 }
 
@@ -69,10 +70,11 @@ fn part_of(host: StrPtr, skip: usize, n: usize, maximum: usize) -> StrPtr
     host.part(host.start + skip, n, maximum)
 }
 
-fn parts_of(host: StrPtr, number: usize, pos1: usize, pos2: usize) -> Match
-    requires { Within host pos1 pos2 }
-    ensures { result ≡ parts_of host number pos1 pos2 }
+fn parts_of(host: StrPtr, place: Spot) -> Match
+    requires { Within host place.pos1 place.pos2 }
+    ensures { result ≡ parts_of host place.number place.pos1 place.pos2 }
 {
+    let Spot { number, pos1, pos2 } = place;
     let before = part_of(host, 0, pos1 - 1, pos1 - 1);
     let matched = part_of(host, pos1 - 1, pos2 - pos1, pos2 - pos1);
     let after = part_of(

@@ -1,29 +1,40 @@
-use Rattle.std.proofs.Common.{◌<◌, length, arith}
-use Rattle.search.proofs.Finding.{closed_at, passed_none, passed_all, passed_more, find_hit}
+use Rattle.std.proofs.Common.{ℕ, ◌≡◌, ◌-◌, false, [], get_or, length, take, drop, ap, refl, ◌∙◌, arith}
+use borrow.Author.Count.{below_more}
+use Rattle.strlib.proofs.Texts.{texts_long}
+use Rattle.strlib.specs.Pointer.{texts}
+use Rattle.search.specs.Search.{is_prefix}
+use Rattle.search.proofs.Finding.{passed_none, passed_all, passed_more, tried_is, find_hit}
 use Rattle.search.proofs.find.find.Goals as goal
 
-pub loop-skipped-init : goal.loop-skipped-init
-loop-skipped-init c = passed_none _ _
+pub positions-init : goal.positions-init
+positions-init c = record { none = refl; passed = passed_none _ _ }
 
-under : (c : goal.After-strings) → c.in-Some.k < length c.strings.result.now
-under c = rw c.strings.ensures (closed_at _ _ _ _ c.in-Some.ensures)
+pub loop-k-preserved : goal.loop-k-preserved
+loop-k-preserved c =
+    let ps = take c.args.list.now.count c.args.list.now.items in
+    let rest = take (length c.args.text.now - c.positions.skipped) (drop c.positions.skipped c.args.text.now) in
+    record {
+      none = c.loop-k.invariant.none;
+      tried = below_more (λ (i : ℕ). is_prefix (get_or (texts c.args.store.now ps) i []) rest ≡ false) _ c.loop-k.invariant.tried
+          (tried_is _ _ c.args.text.now c.positions.skipped _ (rw c.strings-p-items.ensures at c.loop-k-test.true) _ c.strings-p-items.ensures _ _ c.text-string.ensures _ c.starts_with.ensures.value ∙ c.if-starts_with.false);
+    }
 
-pub offset_bounds-strings-k : goal.offset_bounds-strings-k
-offset_bounds-strings-k c = omega (arith, under c)
+pub positions-preserved : goal.positions-preserved
+positions-preserved c = record {
+  none = c.loop-k.invariant.none;
+  passed = passed_more _ _ _ c.positions.invariant.passed c.positions-test.true
+      (λ k h. c.loop-k.invariant.tried k (omega (arith, texts_long c.args.store.now (take c.args.list.now.count c.args.list.now.items), ap length c.strings-p-items.ensures)));
+}
 
-pub bounds-strings-k : goal.bounds-strings-k
-bounds-strings-k c = under c
+pub returns-then-starts_with : goal.returns-then-starts_with
+returns-then-starts_with c =
+    find_hit _ _ _ _ _ (rw c.strings-p-items.ensures at c.loop-k-test.true) _ c.strings-p-items.ensures _ _ c.text-string.ensures _ c.starts_with.ensures.value _ c.positions.invariant.passed
+    c.positions-test.true c.if-starts_with.true c.loop-k.invariant.tried
 
-pub overflow_add-result : goal.overflow_add-result
-overflow_add-result c = let h : c.in-Some.k < length c.strings.result.now = rw c.strings.ensures (closed_at _ _ _ _ c.in-Some.ensures) in omega arith
-
-pub returns-in-Some : goal.returns-in-Some
-returns-in-Some c =
-    find_hit _ _ _ _ c.loop-skipped.invariant (omega arith) _ _ _ _ (rw c.strings.ensures at c.text-string.ensures) c.in-Some.ensures
-
-pub loop-skipped-preserved : goal.loop-skipped-preserved
-loop-skipped-preserved c = passed_more _ _ _ c.loop-skipped.invariant (omega arith) c.in_default.ensures
-
-pub returns-in_default : goal.returns-in_default
-returns-in_default c =
-    passed_all _ _ _ _ (passed_more _ _ _ c.loop-skipped.invariant (omega arith) c.in_default.ensures) (omega arith)
+pub returns-2 : goal.returns-2
+returns-2 c =
+    rw c.loop-k.invariant.none
+    (passed_all _ _ _ _
+    (passed_more _ _ _ c.positions.invariant.passed c.positions-test.true
+    (λ k h. c.loop-k.invariant.tried k (omega (arith, texts_long c.args.store.now (take c.args.list.now.count c.args.list.now.items), ap length c.strings-p-items.ensures))))
+    (omega arith))

@@ -1,4 +1,4 @@
--- Laws of the record at the front of some bytes, and of the checks, made one behind the other. Assumes nothing.
+-- Laws of the record at the front of some bytes, and of what the checks leave. Assumes nothing.
 use mathlib.Core.Path.{◌≡◌, refl, sym, ◌∙◌}
 use mathlib.Core.Bool.{Bool, true, ◌&&◌}
 use mathlib.Core.List.{List, [], ◌∷◌}
@@ -15,9 +15,6 @@ use Rattle.records.specs.Record.{head_size, width_of, record_size, limit_of, is_
 use Rattle.records.specs.Record.{body_checks, body_refusal, key_checks, key_refusal, form_checks, new_checks, new_refusal}
 
 -- ---- what stands at the front
-
-pub byte_none : (x : List ℕ) (i : ℕ) → length x ≤ i → 0 ≡ get_or x i 0
-byte_none x i h = sym (get_or-eq_default x 0 h)
 
 module _ (x : List ℕ) where
   pub kind_read : (k : ℕ) → k ≡ get_or x 0 0 → k ≡ kind_of x
@@ -37,48 +34,7 @@ module _ (x : List ℕ) where
     unfolding is_record
     record_read n number kind b f g = rw (← e, ← f) g
 
-pub ruleset front_laws = (rules, byte_none, kind_read, number_read, name_read, record_read)
-
--- ---- the checks
-
-module _ (kind limit found₁ : ℕ) (d : limit ≡ limit_of kind) (e₁ : found₁ ≡ also 0 11 (leb 1 limit)) where
-  module _ (number : ℕ) (t : Bool) (f : t ≡ is_number_of kind number) where
-    pub key_checked : (found₂ : ℕ) → found₂ ≡ also found₁ 12 t → found₂ ≡ key_refusal kind number
-    unfolding key_refusal is_kind
-    key_checked found₂ e₂ = first_is (key_checks kind number) refl found₂ (rw (e₂, e₁, d, f))
-
-  module _ (x : List ℕ) (k : kind ≡ kind_of x) (size found₂ : ℕ) (s : size ≡ record_size kind) (e₂ : found₂ ≡ also found₁ 13 (leb size (length x))) where
-    pub body_checked : (number : ℕ) (t : Bool) (found₃ : ℕ) → number ≡ number_in x → t ≡ is_number_of kind number → found₃ ≡ also found₂ 12 t
-        → (name : List ℕ) (u : Bool) (found₄ : ℕ) → name ≡ name_in x → u ≡ is_name name → found₄ ≡ also found₃ 2 u → found₄ ≡ body_refusal x
-    unfolding body_refusal is_kind
-    body_checked number t found₃ n f e₃ name u found₄ m g e₄ = first_is (body_checks x) refl found₄ (rw (e₄, e₃, e₂, e₁, g, m, f, n, s, d, k))
-
-pub ruleset checked_laws = (rules, key_checked, body_checked)
-
--- behind a kind, a number and a length in order, the name is looked at
-module _ (l : List ℕ) (room kind number : ℕ) (name : List ℕ) (found₁ w found₂ : ℕ) (e₁ : found₁ ≡ key_refusal kind number) (ew : w ≡ width_of kind)
-    (e₂ : found₂ ≡ also found₁ 4 (leb (length name) w)) where
-  abbrev behind : List (ℕ × Bool)
-  behind = (2, is_name name) ∷ (14, is_fresh l kind number) ∷ (6, leb (record_size kind) room) ∷ []
-
-  form : found₂ ≡ first (form_checks kind number name)
-  unfolding key_refusal
-  form =
-      let t : found₁ ≡ in_turn 0 (key_checks kind number) = e₁ ∙ sym (first_is (key_checks kind number) refl _ refl) in
-      first_is (form_checks kind number name) refl found₂ (rw (← t, ← ew) e₂)
-
-  pub new_form : (found₂ ≡ 0 → ⊥) → found₂ ≡ new_refusal l room kind number name
-  unfolding new_refusal
-  new_form h = first_before (form_checks kind number name) behind found₂ form h
-
-  pub new_behind : found₂ ≡ 0 → (t : Bool) (found₃ : ℕ) → t ≡ is_name name → found₃ ≡ also 0 2 t
-      → (k found₄ : ℕ) → k ≡ record_of l kind number (records l) → found₄ ≡ also found₃ 14 (eqb k 0)
-      → (size found₅ : ℕ) → size ≡ record_size kind → found₅ ≡ also found₄ 6 (leb size room) → found₅ ≡ new_refusal l room kind number name
-  unfolding new_refusal is_fresh
-  new_behind z t found₃ f e₃ k found₄ g e₄ size found₅ s e₅ =
-      first_is behind refl found₅ (rw (e₅, e₄, e₃, f, g, s)) ∙ sym (first_behind (form_checks kind number name) behind refl (sym form ∙ z))
-
-pub ruleset new_laws = (rules, new_form, new_behind)
+pub ruleset front_laws = (rules, kind_read, number_read, name_read, record_read)
 
 -- ---- what a new record that is not refused has
 

@@ -65,25 +65,6 @@ pub ruleset limit_laws = (rules, limit_one, limit_two, limit_none, width_is, siz
 
 -- ---- names
 
-module _ (s : List ℕ) (i : ℕ) (e : is_name s ≡ is_name (drop i s)) where
-  pub name_step : i < length s → 32 ≤ get_or s i 0 → get_or s i 0 ≤ 126 → is_name s ≡ is_name (drop (i + 1) s)
-  unfolding is_name all
-  name_step h k l = e ∙ rw (add-one, drop-cons s i 0 h) (simp (le-leb 32 (get_or s i 0) k, le-leb (get_or s i 0) 126 l))
-
-  pub name_low : i < length s → get_or s i 0 < 32 → false ≡ is_name s
-  unfolding is_name all
-  name_low h k = sym (e ∙ rw (drop-cons s i 0 h) (simp (lt-leb 32 (get_or s i 0) k)))
-
-  pub name_high : i < length s → 32 ≤ get_or s i 0 → 126 < get_or s i 0 → false ≡ is_name s
-  unfolding is_name all
-  name_high h k l = sym (e ∙ rw (drop-cons s i 0 h) (simp (le-leb 32 (get_or s i 0) k, lt-leb (get_or s i 0) 126 l)))
-
-  pub name_end : length s ≤ i → true ≡ is_name s
-  unfolding is_name all
-  name_end k = sym (e ∙ rw drop_of_length-le)
-
-pub ruleset name_laws = (rules, name_step, name_low, name_high, name_end)
-
 name_pad : (name : List ℕ) (k : ℕ) → is_name name ≡ true → is_name (name ++ replicate k 32) ≡ true
 unfolding is_name all
 name_pad [] zero e = refl

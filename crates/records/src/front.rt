@@ -9,7 +9,7 @@ use strlib::{Refusal, StrPtr};
 fn byte_at(bytes: &[u8], i: usize) -> u8
     ensures { result ≡ get_or bytes.now i 0 }
 {
-    if i < bytes.len() { bytes[i] } else { 0 }
+    bytes.get(i).copied().unwrap_or(0)
 }
 
 pub fn kind_of(rest: &[u8]) -> usize

@@ -37,13 +37,10 @@ pub fn record_at(list: &[u8], k: usize) -> &[u8]
 pub fn find_record(list: &[u8], kind: usize, number: usize) -> usize
     ensures { result ≡ record_of list.now kind number (records list.now) }
 {
-    let mut k = count(list);
-    while 0 < k {
-        let i = k - 1;
-        if front::is_record(record_at(list, i), kind, number) {
-            return k;
+    for k in (0..count(list)).rev() {
+        if front::is_record(record_at(list, k), kind, number) {
+            return k + 1;
         }
-        k = i;
     }
     0
 }

@@ -50,11 +50,7 @@ fn run_over(text: &[u8], table: &[u16]) -> Option<Progress>
         Progress {
             state: 1,
             read: 0,
-            last: Note {
-                string: 0,
-                pos1: 0,
-                pos2: 0,
-            },
+            last: None,
         },
     )
 }
@@ -67,7 +63,7 @@ pub fn run(store: &[u8], host: StrPtr, table: &[u16]) -> Result<Ran, Refusal>
     check_run(store, host, table)?;
     let at = run_over(strlib::text(store, host), table).ok_or(Refusal::Table)?;
     Ok(Ran {
-        note: at.note(),
+        note: at.last,
         read: at.read,
     })
 }

@@ -45,7 +45,7 @@ fn search(
     store: &[u8],
     strings: &[StrPtr],
 ) -> io::Result<()> {
-    let answer = search::search(store, StrPtr::full(0, 10), &list_of(strings));
+    let answer = search::search(store, StrPtr::full(0, 10), list_of(strings));
     let matched = answer.map(|at| Found(at.map(|found| Matched { store, found })));
     println!(rt; "3.4  part {part} sp {sp} {}", Answer(matched))
 }
@@ -83,10 +83,10 @@ fn show_split(
 
 fn part_four(rt: &impl Print, store: &[u8], digits: StrPtr) -> io::Result<()> {
     let l2 = list_of(&[StrPtr::full(35, 2)]);
-    let answer = search::search_match_after(store, digits, &l2);
+    let answer = search::search_match_after(store, digits, l2);
     show_split(rt, "sp2 sp1 (manual: sp2 is '12')", store, answer)?;
     let l3 = list_of(&[StrPtr::full(37, 2)]);
-    let answer = search::search_before_match(store, digits, &l3);
+    let answer = search::search_before_match(store, digits, l3);
     show_split(rt, "sp3 sp4 (manual: sp3 is '123')", store, answer)
 }
 
@@ -110,7 +110,7 @@ fn find(
     host: StrPtr,
     strings: &[StrPtr],
 ) -> io::Result<StrPtr> {
-    match search::search(store, host, &list_of(strings)) {
+    match search::search(store, host, list_of(strings)) {
         Ok(Some(found)) => {
             let Match {
                 number,

@@ -105,8 +105,8 @@ fn show(rt: &impl Print, name: &str, store: &[u8], n: usize, sizes: &[usize]) ->
     let mut words = [7; StrPtr::TABLE_MIN];
     match search_two(store, list, &mut words, store, whole, store, rest) {
         Ok((first, second)) => {
-            say_run(rt, name, first, search::search(store, whole, &list))?;
-            say_run(rt, name, second, search::search(store, rest, &list))
+            say_run(rt, name, first, search::search(store, whole, list))?;
+            say_run(rt, name, second, search::search(store, rest, list))
         }
         Err(refusal) => println!(rt; "{name} not translated {}", u8::from(refusal)),
     }

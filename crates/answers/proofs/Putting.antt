@@ -1,23 +1,21 @@
 -- Laws of the text of an answer, which is put together from its parts, and of the counters. Assumes nothing.
-use mathlib.Core.Path.{◌≡◌, refl, sym, ap}
+use Rattle.std.proofs.Common.{Result, Ok, Err, Bool, min, ◌^◌}
+use mathlib.Core.Path.{◌≡◌, refl, sym, ap, ◌∙◌}
 use mathlib.Core.Bool.{true}
 use mathlib.Core.List.{List, ◌++◌}
-use Prim.Native.Nat.{ℕ, ◌+◌, ◌-◌, ◌≤◌, ◌<◌}
-use native.Mathlib.Omega.{arith}
+use Prim.Native.Nat.{ℕ, ◌+◌, ◌-◌}
 use borrow.Author.Rules.{rules}
 use lib.IntN.{ℤ}
-use mir.Syntax.{w64}
-use mir.Val.{Fits}
 use Rattle.number.specs.Limits.{in_range}
 use Rattle.number.specs.Written.{digits, written}
 use Rattle.strlib.specs.Quoted.{bytes}
-use Rattle.strlib.specs.Refusal.{Outcome, refused, gives}
+use Rattle.std.specs.Result.{is_ok}
+use mir.Val.{bool_byte}
+use Rattle.strlib.specs.Refusal.{Outcome, refused, gives, refusal_number}
 use Rattle.desk.proofs.CueGiven.{cue_given, gain_in_range}
 use Rattle.desk.specs.Cue.{cue_answered, cue_word_rule}
 use Rattle.desk.specs.declared.cue.Cue.{Cue}
-use Rattle.desk.specs.declared.cue.CueAnswer.{CueAnswer}
 use Rattle.desk.specs.declared.cue.CueFault.{CueFault}
-use Rattle.desk.specs.declared.cue.CueAnswer.TheVariants.{Cue as Given, Refused}
 use Rattle.buffer.proofs.Growing.{grow_more}
 use Rattle.buffer.specs.Buffer.{grown, value_text}
 use Rattle.answers.specs.Text.{end, ok_text, cue_text, total_text}
@@ -44,16 +42,17 @@ ok_is b b1 b2 b3 b4 n n1 n2 n3 n4 c g r e p q u v =
     let w : (n4, b4) ≡ grown b3 n3 (written 10 c.gain) = rw (e, value_is c.gain r) at v in
     grow_more b n b3 n3 b4 n4 _ _ (grow_more b n b2 n2 b3 n3 _ _ (grow_more b n b1 n1 b2 n2 _ _ p q) u) w
 
-module _ (b : List ℕ) (n : ℕ) (b' : List ℕ) (r : ℕ) (a : CueAnswer) where
-  pub cue_ok : (c : Cue) → a ≡ Given c → (r, b') ≡ grown b n (ok_text c) → (r, b') ≡ grown b n (cue_text (cue_answered a))
+module _ (b : List ℕ) (n : ℕ) (b' : List ℕ) (r : ℕ) (a : Result Cue CueFault) where
+  pub cue_ok : (c : Cue) → a ≡ Ok c → (r, b') ≡ grown b n (ok_text c) → (r, b') ≡ grown b n (cue_text (cue_answered a))
   unfolding cue_text
   cue_ok c e g = rw e g
 
-  pub cue_not : (f : CueFault) → a ≡ Refused f → (r, b') ≡ grown b n (bytes " refused " ++ digits 10 f.refusal) → (r, b') ≡ grown b n (cue_text (cue_answered a))
+  pub cue_not : (f : CueFault) → a ≡ Err f → (j k : ℕ) → j ≡ refusal_number f.refusal → k ≡ j → (r, b') ≡ grown b n (bytes " refused " ++ digits 10 k)
+      → (r, b') ≡ grown b n (cue_text (cue_answered a))
   unfolding cue_text
-  cue_not f e g = rw e g
+  cue_not f e j k p q g = rw (e, ← p, ← q) g
 
-pub cue_writable : (a : CueAnswer) (c : Cue) → writable (cue_answered a) ≡ true → a ≡ Given c → in_range c.gain ≡ true
+pub cue_writable : (a : Result Cue CueFault) (c : Cue) → writable (cue_answered a) ≡ true → a ≡ Ok c → in_range c.gain ≡ true
 unfolding writable
 cue_writable a c h e = rw e at h
 
@@ -66,22 +65,17 @@ total_is b b1 b2 b3 b4 n n1 n2 n3 n4 lines ok bad e p q u v =
 
 -- ---- counters
 
-pub count_more : (n : ℕ) → n < 18446744073709551615 → n + 1 ≡ counted (n + 1)
+pub counted_sum : (n r : ℕ) → r ≡ min n (2 ^ 64 - 1) → r ≡ counted n
 unfolding counted
-count_more n h = omega arith
+counted_sum n r e = e
 
-pub count_stays : (n : ℕ) → Fits w64 n → 18446744073709551615 ≤ n → n ≡ counted (n + 1)
-unfolding counted
-count_stays n f h = omega (arith, f.fits)
-
-pub good_yes : (n r : ℕ) (a : CueAnswer) (c : Cue) → a ≡ Given c → r ≡ counted (n + 1) → r ≡ counted (n + good_of (cue_answered a))
-unfolding good_of
-good_yes n r a c e h = rw e h
-
-pub good_no : (n : ℕ) (k : CueFault) (a : CueAnswer) → Fits w64 n → a ≡ Refused k → n ≡ counted (n + good_of (cue_answered a))
-unfolding good_of counted
-good_no n k a f e = rw e (omega (arith, f.fits))
+-- a line counts as good where its cue is given
+pub counted_good : (n r k : ℕ) (a : Result Cue CueFault) (ok : Bool) → ok ≡ is_ok a → k ≡ bool_byte ok → r ≡ min (n + k) (2 ^ 64 - 1)
+    → r ≡ counted (n + good_of (cue_answered a))
+unfolding counted good_of
+counted_good n r k (Ok c) ok e f g = let q : k ≡ 1 = f ∙ rw e in rw q at g
+counted_good n r k (Err c) ok e f g = let q : k ≡ 0 = f ∙ rw e in rw q at g
 
 pub ruleset put_laws = (rules, cue_ok, cue_not, cue_writable, rule_writable)
 
-pub ruleset count_laws = (rules, count_more, count_stays, good_yes, good_no)
+pub ruleset count_laws = (rules, counted_sum, counted_good, rule_writable)

@@ -21,10 +21,8 @@ fn take_line(part: &[u8], full: bool, hold: &mut [u8], out: &mut [u8], s: State)
         return lines::answer(strlib::text(hold, StrPtr::full(0, held)), out, s);
     }
     State {
-        lines: s.lines,
-        ok: s.ok,
         held: buffer::append(hold, s.held, part),
-        out: s.out,
+        ..s
     }
 }
 
@@ -49,10 +47,9 @@ pub fn feed(part: &[u8], hold: &mut [u8; super::HOLD], out: &mut [u8], s: State)
     ensures { (result, (hold.new, out.new)) ≡ fed_by part.now s hold.old out.old }
 {
     let t = State {
-        lines: s.lines,
-        ok: s.ok,
-        held: moving::least(s.held, hold.len()),
+        held: s.held.min(hold.len()),
         out: 0,
+        ..s
     };
     walk(part, hold, out, t)
 }
@@ -63,10 +60,9 @@ pub fn finish(hold: &[u8; super::HOLD], out: &mut [u8], s: State) -> usize
 {
     if 0 < s.held {
         let t = State {
-            lines: s.lines,
-            ok: s.ok,
             held: 0,
             out: 0,
+            ..s
         };
         let t = lines::answer(strlib::text(hold, StrPtr::full(0, s.held)), out, t);
         return lines::put_total(out, t.out, t.lines, t.ok);

@@ -3,49 +3,36 @@ use mathlib.Core.Path.{◌≡◌, refl, ap, ◌∙◌}
 use mathlib.Core.List.{List, [], ◌∷◌, ◌++◌, append-nil}
 use Prim.Native.Nat.{ℕ, zero, suc, ◌+◌, ◌-◌, ◌≤◌, ◌<◌, min}
 use native.Mathlib.Omega.{arith}
-use borrow.Author.Rules.{rules}
+use borrow.Rule.Slice.PartMut.{put_mid}
 use lib.ListN.{length, take, length-take, length-append}
 use lib.Seq.{take_all, take-nil}
 use Rattle.strlib.proofs.Pointing.{either}
-use Rattle.strlib.proofs.Storing.{put_none, put_length, put_head, put_put, take_append}
-use Rattle.strlib.specs.Pointer.{pointer, text_of}
+use Rattle.strlib.proofs.Storing.{put_none, put_length, put_head, put_put, take_min, take_append}
 use Rattle.strlib.specs.Store.{put}
-use Rattle.strlib.specs.declared.StrPtr.{StrPtr}
-use Rattle.moving.proofs.Pasting.{pasted_in, pasted_length}
-use Rattle.moving.specs.Moving.{pasted}
+use Rattle.moving.proofs.Writing.{part_is}
 use Rattle.buffer.specs.Buffer.{grown}
 
 -- ---- what has room of a text is written behind the first bytes
 
-module _ (b : List ℕ) (n from : ℕ) (t : List ℕ) (ea : from ≡ min n (length b)) (p : StrPtr) (ep : p ≡ pointer 0 (length b - from) (length b - from))
-    (x : List ℕ) (ex : x ≡ text_of t p) where
-  fitting : x ≡ take (length b - from) t
-  unfolding text_of pointer
-  fitting = ex ∙ rw ep
+module _ (b t y : List ℕ) (n at k : ℕ) (ea : at ≡ min n (length b)) (ek : k ≡ min (length t) (length b - at)) where
+  fitting : take k t ≡ take (length b - at) t
+  fitting = rw (ek, ← (take_min (length b - at) (length t) t), take_all (length t) t (omega arith))
 
-  fitting_length : length x ≡ min (length b - from) (length t)
-  fitting_length = ap length fitting ∙ length-take (length b - from) t
-
-  pub grow_count : from + length x ≤ length b
-  grow_count = omega (arith, fitting_length)
-
-  pub grow_put : (b' : List ℕ) → b' ≡ pasted b from x → (from + length x, b') ≡ grown b n t
+  pub grow_put : y ≡ take k t → (at + length (take k t), put_mid at (at + length (take k t) - at) b y) ≡ grown b n t
   unfolding grown
-  grow_put b' e =
-      let c : from + length x ≡ min (n + length t) (length b) = omega (arith, fitting_length) in
-      let q : put b from x ≡ put b n (take (length b - n) t) =
+  grow_put e =
+      let x : List ℕ = take k t in
+      let l : length x ≡ min k (length t) = length-take k t in
+      let c : at + length x ≡ min (n + length t) (length b) = omega arith in
+      let p : put_mid at (at + length x - at) b y ≡ put b at x = part_is b y x at (length x) e refl in
+      let q : put b at x ≡ put b n (take (length b - n) t) =
       either n (length b)
-      (λ (h : n ≤ length b). let a : from ≡ n = omega arith in rw (fitting, a))
+      (λ (h : n ≤ length b). let a : at ≡ n = omega arith in rw (fitting, a))
       (λ (h : length b < n).
       let z : length b - n ≡ 0 = omega arith in
-      let y : length b - from ≡ 0 = omega arith in
-      rw (fitting, y, z, put_none b from, put_none b n)) in
-      rw (c, e, pasted_in b from x grow_count, q)
-
-  pub grow_size : (b' : List ℕ) → b' ≡ pasted b from x → length b' ≡ length b
-  grow_size b' e = rw e (pasted_length b from x)
-
-pub ruleset grow_laws = (rules, grow_count, grow_put, grow_size)
+      let w : length b - at ≡ 0 = omega arith in
+      rw (fitting, w, z, put_none b at, put_none b n)) in
+      rw (p, q, c)
 
 -- ---- what follows from the equation
 

@@ -5,15 +5,15 @@ ghost use Rattle.std.specs.Prelude.{◌++◌, ◌≡◌};
 ghost use Rattle.number.specs.Written.{digits};
 ghost use Rattle.buffer.specs.Buffer.{grown, value_text};
 
-use strlib::{StrAnswer, StrPtr};
+use strlib::StrPtr;
 
 // Puts a text behind the first n bytes of a buffer, and answers how many are there then.
 pub fn append(buffer: &mut [u8], n: usize, text: &[u8]) -> usize
     ensures { (result, buffer.new) ≡ grown buffer.old n text.now }
 {
-    let at = moving::least(n, buffer.len());
-    let part = strlib::text(text, StrPtr::full(0, buffer.len() - at));
-    moving::write_bytes(buffer, at, part);
+    let at = n.min(buffer.len());
+    let part = &text[..text.len().min(buffer.len() - at)];
+    buffer[at..at + part.len()].copy_from_slice(part);
     at + part.len()
 }
 
@@ -41,7 +41,7 @@ pub fn append_value(buffer: &mut [u8], n: usize, value: i64) -> usize
     let mut text = [0u8; 12];
     let written = number::write(&mut text, StrPtr::new(0, 0, 12), value, 10);
     match written {
-        StrAnswer::Given(p) => append(buffer, n, strlib::text(&text, p)),
-        StrAnswer::Refused(_) => append(buffer, n, b""),
+        Ok(p) => append(buffer, n, strlib::text(&text, p)),
+        Err(_) => append(buffer, n, b""),
     }
 }

@@ -10,26 +10,19 @@ ghost use Rattle.complaints.specs.Complaint.{shown as Complaint·shown};
 use endings::{Ending, Source};
 
 // A byte as it is shown in a line.
+#[tactic(auto, unfolding(crate::specs::Complaint::shown))]
 fn visible(c: u8) -> u8
     ensures { result ≡ Complaint·shown c }
 {
-    if c < 32 {
-        b'?'
-    } else if c == 127 {
-        b'?'
-    } else {
-        c
-    }
+    if c.is_ascii_control() { b'?' } else { c }
 }
 
 // Makes a name fit to stand in a line.
 pub fn show(name: &mut [u8])
     ensures { name.new ≡ map Complaint·shown name.old }
 {
-    let mut i = 0;
-    while i < name.len() {
-        name[i] = visible(name[i]);
-        i += 1;
+    for byte in name.iter_mut() {
+        *byte = visible(*byte);
     }
 }
 

@@ -8,24 +8,19 @@ use std::env::{Env, FillError};
 use std::io::{ErrorKind, Read, Write};
 
 // More calls than any signal can interrupt.
-const TRIES: u64 = 18446744073709551615;
+const TRIES: u64 = u64::MAX;
 
 // One read, answered as C's is: −1 where it failed, 0 at the end of the input, else how many bytes it put at the front
-// of buf.
+// of buf. A number, since `turns::after_read` and program's `run_writes` are of every number that a read may answer.
 pub fn read<R: Read>(from: &mut R, buf: &mut [u8]) -> isize
     ensures { Moved (length buf.old) result }
 {
-    let mut tries = TRIES;
-    while 0 < tries {
+    for _ in 0..TRIES {
         match from.read(buf) {
             Ok(got) => return got as isize,
-            Err(e) => {
-                if e.kind() != ErrorKind::Interrupted {
-                    return -1;
-                }
-            }
+            Err(e) if e.kind() == ErrorKind::Interrupted => {}
+            Err(_) => return -1,
         }
-        tries -= 1;
     }
     -1
 }
@@ -36,27 +31,18 @@ pub fn write<W: Write>(to: &mut W, buf: &[u8]) -> bool
     ensures { length buf.now ≡ 0 → result ≡ true }
 {
     let mut done = 0;
-    let mut tries = TRIES;
-    while done < buf.len() {
-        if tries == 0 {
-            return false;
+    for _ in 0..TRIES {
+        if done == buf.len() {
+            break;
         }
         match to.write(&buf[done..]) {
-            Ok(put) => {
-                if put == 0 {
-                    return false;
-                }
-                done += put;
-            }
-            Err(e) => {
-                if e.kind() != ErrorKind::Interrupted {
-                    return false;
-                }
-            }
+            Ok(0) => return false,
+            Ok(put) => done += put,
+            Err(e) if e.kind() == ErrorKind::Interrupted => {}
+            Err(_) => return false,
         }
-        tries -= 1;
     }
-    true
+    done == buf.len()
 }
 
 // Puts the program's first argument at the front of name, and answers its length; of one that is too long what has

@@ -7,7 +7,7 @@ ghost use Rattle.endings.specs.Ending.{is_going, after_write, source_of};
 // How a run stands: it goes on, it came to its input's end, or why it did not: it was called wrongly, its input could
 // not be opened or not be read, or its output could not be written. A total that could not be written makes it
 // unwritten too.
-#[derive(Clone, Copy)]
+#[derive(Clone, Copy, Debug, PartialEq, Eq)]
 pub enum Ending {
     Going,
     Complete,
@@ -18,27 +18,22 @@ pub enum Ending {
 }
 
 // What a program reads.
-#[derive(Clone, Copy)]
+#[derive(Clone, Copy, Debug, PartialEq, Eq)]
 pub enum Source {
     Input,
     File,
     Neither,
 }
 
+#[tactic(auto, unfolding(crate::specs::Ending::is_going))]
 pub fn is_going(ending: Ending) -> bool
     ensures { result ≡ is_going ending }
 {
-    match ending {
-        Ending::Going => true,
-        Ending::Complete => false,
-        Ending::Misused => false,
-        Ending::Unopened => false,
-        Ending::Unread => false,
-        Ending::Unwritten => false,
-    }
+    matches!(ending, Ending::Going)
 }
 
 // How a run stands after a write that took all its bytes, or failed.
+#[tactic(auto, unfolding(crate::specs::Ending::after_write))]
 pub fn after_write(done: bool, ending: Ending) -> Ending
     ensures { result ≡ after_write done ending }
 {
@@ -55,14 +50,9 @@ pub fn source_of(arguments: usize, name: &[u8]) -> Source
     if 2 < arguments {
         return Source::Neither;
     }
-    if name.len() == 0 {
-        return Source::File;
+    match name {
+        [b'-'] => Source::Input,
+        [b'-', ..] => Source::Neither,
+        _ => Source::File,
     }
-    if name[0] != b'-' {
-        return Source::File;
-    }
-    if name.len() == 1 {
-        return Source::Input;
-    }
-    Source::Neither
 }

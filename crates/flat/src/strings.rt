@@ -1,14 +1,12 @@
 // Strings, what a bounded copy gives, and parts of lent bytes.
 ghost use Rattle.std.specs.Prelude.{◌≡◌};
 ghost use Rattle.strlib.specs.Refusal.{answered};
-ghost use Rattle.copying.specs.Copying.{copy_answered};
-ghost use Rattle.joining.specs.Resuming.{round_answered};
 ghost use Rattle.flat.specs.Strings.{flat_string, flat_copied, flat_round, flat_part, flat_label};
 
-use copying::CopyAnswer;
+use copying::Wrote;
 use cutting::DeskLabel;
-use joining::{Place, RoundAnswer};
-use strlib::{StrAnswer, StrPtr};
+use joining::{Place, Round};
+use strlib::{Refusal, StrPtr};
 
 #[repr(C)]
 #[derive(Clone, Copy)]
@@ -51,83 +49,86 @@ pub struct FlatLabel {
     pub length: usize,
 }
 
-pub fn string(a: StrAnswer) -> FlatString
-    ensures { result ≡ flat_string (answered a) }
-{
-    match a {
-        StrAnswer::Given(string) => FlatString { refusal: 0, string },
-        StrAnswer::Refused(refusal) => FlatString {
-            refusal,
-            string: StrPtr::full(0, 0),
-        },
+impl From<Result<StrPtr, Refusal>> for FlatString {
+    ghost from_gives = { λ a f. f ≡ flat_string (answered a) };
+
+    fn from(a: Result<StrPtr, Refusal>) -> FlatString {
+        match a {
+            Ok(string) => FlatString { refusal: 0, string },
+            Err(refusal) => FlatString {
+                refusal: u8::from(refusal),
+                string: StrPtr::full(0, 0),
+            },
+        }
     }
 }
 
-pub fn copied(a: CopyAnswer) -> FlatCopied
-    ensures { result ≡ flat_copied (copy_answered a) }
-{
-    match a {
-        CopyAnswer::Given(w) => {
-            let to = w.to;
-            FlatCopied {
+impl From<Result<Wrote, Refusal>> for FlatCopied {
+    ghost from_gives = { λ a f. f ≡ flat_copied (answered a) };
+
+    fn from(a: Result<Wrote, Refusal>) -> FlatCopied {
+        match a {
+            Ok(w) => FlatCopied {
                 refusal: 0,
                 completed: w.completed,
-                to,
-            }
-        }
-        CopyAnswer::Refused(refusal) => FlatCopied {
-            refusal,
-            completed: false,
-            to: StrPtr::full(0, 0),
-        },
-    }
-}
-
-pub fn round(a: RoundAnswer) -> FlatRound
-    ensures { result ≡ flat_round (round_answered a) }
-{
-    match a {
-        RoundAnswer::Given(r) => {
-            let to = r.to;
-            let next = r.next;
-            FlatRound {
-                refusal: 0,
-                completed: r.completed,
-                to,
-                next,
-            }
-        }
-        RoundAnswer::Refused(refusal) => {
-            let next = Place {
-                string: 0,
-                character: 0,
-            };
-            FlatRound {
-                refusal,
+                to: w.to,
+            },
+            Err(refusal) => FlatCopied {
+                refusal: u8::from(refusal),
                 completed: false,
                 to: StrPtr::full(0, 0),
-                next,
-            }
+            },
         }
     }
 }
 
-pub fn part(p: StrPtr) -> FlatPart
-    ensures { result ≡ flat_part p }
-{
-    FlatPart {
-        offset: p.start,
-        length: p.length,
+impl From<Result<Round, Refusal>> for FlatRound {
+    ghost from_gives = { λ a f. f ≡ flat_round (answered a) };
+
+    fn from(a: Result<Round, Refusal>) -> FlatRound {
+        match a {
+            Ok(r) => FlatRound {
+                refusal: 0,
+                completed: r.completed,
+                to: r.to,
+                next: r.next,
+            },
+            Err(refusal) => FlatRound {
+                refusal: u8::from(refusal),
+                completed: false,
+                to: StrPtr::full(0, 0),
+                next: Place {
+                    string: 0,
+                    character: 0,
+                },
+            },
+        }
     }
 }
 
-pub fn label(l: DeskLabel) -> FlatLabel
-    ensures { result ≡ flat_label l }
-{
-    let p = l.place;
-    FlatLabel {
-        house: l.house,
-        offset: p.start,
-        length: p.length,
+impl From<StrPtr> for FlatPart {
+    ghost from_gives = { λ p f. f ≡ flat_part p };
+
+    fn from(p: StrPtr) -> FlatPart {
+        FlatPart {
+            offset: p.start,
+            length: p.length,
+        }
+    }
+}
+
+impl From<DeskLabel> for FlatLabel {
+    ghost from_gives = { λ l f. f ≡ flat_label l };
+
+    fn from(l: DeskLabel) -> FlatLabel {
+        let (house, place) = match l {
+            DeskLabel::Production(place) => (false, place),
+            DeskLabel::House(place) => (true, place),
+        };
+        FlatLabel {
+            house,
+            offset: place.start,
+            length: place.length,
+        }
     }
 }

@@ -18,7 +18,7 @@ use Rattle.flat_finds.specs.declared.finds.FlatName.{FlatName}
 abbrev pub no_match : ℕ → FlatMatch
 no_match n = record { refusal = n; found = false; number = 0; before = no_string; matched = no_string; after = no_string }
 
-unfoldable pub flat_match : Outcome (Sought Match) → FlatMatch
+abbrev pub flat_match : Outcome (Sought Match) → FlatMatch
 flat_match (refused n) = no_match n
 flat_match (gives nowhere) = no_match 0
 flat_match (gives (at m)) =
@@ -27,7 +27,7 @@ flat_match (gives (at m)) =
 abbrev pub no_split : ℕ → FlatSplit
 no_split n = record { refusal = n; found = false; number = 0; front = no_string; back = no_string }
 
-unfoldable pub flat_split : Outcome (Sought Split) → FlatSplit
+abbrev pub flat_split : Outcome (Sought Split) → FlatSplit
 flat_split (refused n) = no_split n
 flat_split (gives nowhere) = no_split 0
 flat_split (gives (at m)) = record { refusal = 0; found = true; number = m.number; front = m.front; back = m.back }
@@ -36,7 +36,7 @@ flat_split (gives (at m)) = record { refusal = 0; found = true; number = m.numbe
 abbrev pub no_note : ℕ → ℕ → FlatNote
 no_note n read = record { refusal = n; found = false; string = 0; pos1 = 0; pos2 = 0; read = read }
 
-unfoldable pub flat_note : Outcome (Result × ℕ) → FlatNote
+abbrev pub flat_note : Outcome (Result × ℕ) → FlatNote
 flat_note (refused n) = no_note n 0
 flat_note (gives (nothing, read)) = no_note 0 read
 flat_note (gives (found j pos1 pos2, read)) = record { refusal = 0; found = true; string = j; pos1 = pos1; pos2 = pos2; read = read }
@@ -44,7 +44,7 @@ flat_note (gives (found j pos1 pos2, read)) = record { refusal = 0; found = true
 abbrev pub no_character : ℕ → FlatCharacter
 no_character n = record { refusal = n; found = false; code = 0; position = 0 }
 
-unfoldable pub flat_character : Outcome (Sought CharAt) → FlatCharacter
+abbrev pub flat_character : Outcome (Sought CharAt) → FlatCharacter
 flat_character (refused n) = no_character n
 flat_character (gives nowhere) = no_character 0
 flat_character (gives (at c)) = record { refusal = 0; found = true; code = c.code; position = c.position }
@@ -53,7 +53,7 @@ flat_character (gives (at c)) = record { refusal = 0; found = true; code = c.cod
 abbrev pub no_name : ℕ → ℕ → FlatName
 no_name n offset = record { refusal = n; found = false; offset = offset; place = 0; length = 0 }
 
-unfoldable pub flat_name : Told (Sought (ℕ × ℕ)) → FlatName
+abbrev pub flat_name : Told (Sought (ℕ × ℕ)) → FlatName
 flat_name (refused_at n offset) = no_name n offset
 flat_name (tells nowhere) = no_name 0 0
 flat_name (tells (at (place, n))) = record { refusal = 0; found = true; offset = 0; place = place; length = n }

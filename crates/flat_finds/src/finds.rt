@@ -1,18 +1,18 @@
 // What was found, or that nothing was.
 ghost use Rattle.std.specs.Prelude.{◌≡◌};
-ghost use Rattle.search.specs.Rule.{search_answered, split_answered};
+ghost use Rattle.strlib.specs.Refusal.{sought_answered};
 ghost use Rattle.table.specs.Run.{ran_answered};
-ghost use Rattle.charset.specs.Rule.{char_answered};
 ghost use Rattle.desk.specs.Label.{label_placed, name_part};
 ghost use Rattle.flat.specs.Strings.{flat_part};
 ghost use Rattle.flat_finds.specs.Finds.{no_match, flat_match, no_split, flat_split, no_note, flat_note, no_character, flat_character, no_name, flat_name};
 
-use charset::CharAnswer;
+use charset::CharAt;
 use desk::LabelPlace;
 use flat::FlatPart;
-use search::{SearchAnswer, SplitAnswer};
-use strlib::StrPtr;
-use table::RunAnswer;
+use records::Fault;
+use search::{Match, Split};
+use strlib::{Refusal, StrPtr};
+use table::Ran;
 
 #[repr(C)]
 #[derive(Clone, Copy)]
@@ -65,166 +65,177 @@ pub struct FlatName {
     pub length: usize,
 }
 
-fn no_match(refusal: u8) -> FlatMatch
-    ensures { result ≡ no_match refusal }
-{
-    let none = StrPtr::full(0, 0);
-    FlatMatch {
-        refusal,
-        found: false,
-        number: 0,
-        before: none,
-        matched: none,
-        after: none,
+impl FlatMatch {
+    fn none(refusal: u8) -> Self
+        ensures { result ≡ no_match refusal }
+    {
+        Self {
+            refusal,
+            found: false,
+            number: 0,
+            before: StrPtr::full(0, 0),
+            matched: StrPtr::full(0, 0),
+            after: StrPtr::full(0, 0),
+        }
     }
 }
 
-pub fn matched(a: SearchAnswer) -> FlatMatch
-    ensures { result ≡ flat_match (search_answered a) }
-{
-    match a {
-        SearchAnswer::Found(m) => {
-            let before = m.before;
-            let matched = m.matched;
-            let after = m.after;
-            FlatMatch {
+impl From<Result<Option<Match>, Refusal>> for FlatMatch {
+    ghost from_gives = { λ a f. f ≡ flat_match (sought_answered a) };
+
+    fn from(a: Result<Option<Match>, Refusal>) -> FlatMatch {
+        match a {
+            Ok(Some(m)) => FlatMatch {
                 refusal: 0,
                 found: true,
                 number: m.number,
-                before,
-                matched,
-                after,
-            }
+                before: m.before,
+                matched: m.matched,
+                after: m.after,
+            },
+            Ok(None) => FlatMatch::none(0),
+            Err(refusal) => FlatMatch::none(u8::from(refusal)),
         }
-        SearchAnswer::Nothing => no_match(0),
-        SearchAnswer::Refused(refusal) => no_match(refusal),
     }
 }
 
-fn no_split(refusal: u8) -> FlatSplit
-    ensures { result ≡ no_split refusal }
-{
-    let none = StrPtr::full(0, 0);
-    FlatSplit {
-        refusal,
-        found: false,
-        number: 0,
-        front: none,
-        back: none,
+impl FlatSplit {
+    fn none(refusal: u8) -> Self
+        ensures { result ≡ no_split refusal }
+    {
+        Self {
+            refusal,
+            found: false,
+            number: 0,
+            front: StrPtr::full(0, 0),
+            back: StrPtr::full(0, 0),
+        }
     }
 }
 
-pub fn split(a: SplitAnswer) -> FlatSplit
-    ensures { result ≡ flat_split (split_answered a) }
-{
-    match a {
-        SplitAnswer::Found(s) => {
-            let front = s.front;
-            let back = s.back;
-            FlatSplit {
+impl From<Result<Option<Split>, Refusal>> for FlatSplit {
+    ghost from_gives = { λ a f. f ≡ flat_split (sought_answered a) };
+
+    fn from(a: Result<Option<Split>, Refusal>) -> FlatSplit {
+        match a {
+            Ok(Some(s)) => FlatSplit {
                 refusal: 0,
                 found: true,
                 number: s.number,
-                front,
-                back,
-            }
+                front: s.front,
+                back: s.back,
+            },
+            Ok(None) => FlatSplit::none(0),
+            Err(refusal) => FlatSplit::none(u8::from(refusal)),
         }
-        SplitAnswer::Nothing => no_split(0),
-        SplitAnswer::Refused(refusal) => no_split(refusal),
     }
 }
 
-fn no_note(refusal: u8, read: usize) -> FlatNote
-    ensures { result ≡ no_note refusal read }
-{
-    FlatNote {
-        refusal,
-        found: false,
-        string: 0,
-        pos1: 0,
-        pos2: 0,
-        read,
-    }
-}
-
-pub fn note(a: RunAnswer) -> FlatNote
-    ensures { result ≡ flat_note (ran_answered a) }
-{
-    match a {
-        RunAnswer::Found(n, read) => FlatNote {
-            refusal: 0,
-            found: true,
-            string: n.string,
-            pos1: n.pos1,
-            pos2: n.pos2,
+impl FlatNote {
+    fn none(refusal: u8, read: usize) -> Self
+        ensures { result ≡ no_note refusal read }
+    {
+        Self {
+            refusal,
+            found: false,
+            string: 0,
+            pos1: 0,
+            pos2: 0,
             read,
-        },
-        RunAnswer::Nothing(read) => no_note(0, read),
-        RunAnswer::Refused(refusal) => no_note(refusal, 0),
+        }
     }
 }
 
-fn no_character(refusal: u8) -> FlatCharacter
-    ensures { result ≡ no_character refusal }
-{
-    FlatCharacter {
-        refusal,
-        found: false,
-        code: 0,
-        position: 0,
+impl From<Result<Ran, Refusal>> for FlatNote {
+    ghost from_gives = { λ a f. f ≡ flat_note (ran_answered a) };
+
+    fn from(a: Result<Ran, Refusal>) -> FlatNote {
+        match a {
+            Ok(ran) => match ran.note {
+                Some(n) => FlatNote {
+                    refusal: 0,
+                    found: true,
+                    string: n.string,
+                    pos1: n.pos1,
+                    pos2: n.pos2,
+                    read: ran.read,
+                },
+                None => FlatNote::none(0, ran.read),
+            },
+            Err(refusal) => FlatNote::none(u8::from(refusal), 0),
+        }
     }
 }
 
-pub fn character(a: CharAnswer) -> FlatCharacter
-    ensures { result ≡ flat_character (char_answered a) }
-{
-    match a {
-        CharAnswer::Found(c) => FlatCharacter {
-            refusal: 0,
-            found: true,
-            code: c.code,
-            position: c.position,
-        },
-        CharAnswer::Nothing => no_character(0),
-        CharAnswer::Refused(refusal) => no_character(refusal),
+impl FlatCharacter {
+    fn none(refusal: u8) -> Self
+        ensures { result ≡ no_character refusal }
+    {
+        Self {
+            refusal,
+            found: false,
+            code: 0,
+            position: 0,
+        }
     }
 }
 
-fn no_name(refusal: u8, offset: usize) -> FlatName
-    ensures { result ≡ no_name refusal offset }
-{
-    FlatName {
-        refusal,
-        found: false,
-        offset,
-        place: 0,
-        length: 0,
+impl From<Result<Option<CharAt>, Refusal>> for FlatCharacter {
+    ghost from_gives = { λ a f. f ≡ flat_character (sought_answered a) };
+
+    fn from(a: Result<Option<CharAt>, Refusal>) -> FlatCharacter {
+        match a {
+            Ok(Some(c)) => FlatCharacter {
+                refusal: 0,
+                found: true,
+                code: c.code,
+                position: c.position,
+            },
+            Ok(None) => FlatCharacter::none(0),
+            Err(refusal) => FlatCharacter::none(u8::from(refusal)),
+        }
     }
 }
 
-pub fn name(a: LabelPlace) -> FlatName
-    ensures { result ≡ flat_name (label_placed a) }
-{
-    match a {
-        LabelPlace::Found { place, length: n } => FlatName {
-            refusal: 0,
-            found: true,
-            offset: 0,
-            place,
-            length: n,
-        },
-        LabelPlace::Missing => no_name(0, 0),
-        LabelPlace::Refused(f) => no_name(f.refusal, f.offset),
+impl FlatName {
+    fn none(refusal: u8, offset: usize) -> Self
+        ensures { result ≡ no_name refusal offset }
+    {
+        Self {
+            refusal,
+            found: false,
+            offset,
+            place: 0,
+            length: 0,
+        }
     }
 }
 
-// The same as a part: the empty one at the front on a refusal or no record.
-pub fn name_part(a: LabelPlace) -> FlatPart
+impl From<Result<Option<LabelPlace>, Fault>> for FlatName {
+    ghost from_gives = { λ a f. f ≡ flat_name (label_placed a) };
+
+    fn from(a: Result<Option<LabelPlace>, Fault>) -> FlatName {
+        match a {
+            Ok(Some(name)) => FlatName {
+                refusal: 0,
+                found: true,
+                offset: 0,
+                place: name.place,
+                length: name.length,
+            },
+            Ok(None) => FlatName::none(0, 0),
+            Err(fault) => FlatName::none(u8::from(fault.refusal), fault.offset),
+        }
+    }
+}
+
+// A found name as a part: the empty one at the front on a refusal or no record.
+pub fn name_part(a: Result<Option<LabelPlace>, Fault>) -> FlatPart
     ensures { result ≡ flat_part (name_part (label_placed a)) }
 {
     match a {
-        LabelPlace::Found { place, length: n } => flat::part(StrPtr::full(place, n)),
-        LabelPlace::Missing => flat::part(StrPtr::full(0, 0)),
-        LabelPlace::Refused(_) => flat::part(StrPtr::full(0, 0)),
+        Ok(Some(name)) => FlatPart::from(StrPtr::full(name.place, name.length)),
+        Ok(None) => FlatPart::from(StrPtr::full(0, 0)),
+        Err(_) => FlatPart::from(StrPtr::full(0, 0)),
     }
 }

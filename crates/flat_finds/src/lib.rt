@@ -6,8 +6,5 @@
 mod finds;
 mod runs;
 
-pub use finds::{
-    FlatCharacter, FlatMatch, FlatName, FlatNote, FlatSplit, character, matched, name, name_part,
-    note, split,
-};
+pub use finds::{FlatCharacter, FlatMatch, FlatName, FlatNote, FlatSplit, name_part};
 pub use runs::{FlatBurst, burst};

@@ -1,9 +1,10 @@
 // What a run carries on from a burst.
 ghost use Rattle.std.specs.Prelude.{◌≡◌};
-ghost use Rattle.bursts.specs.Bursts.{burst_answered};
+ghost use Rattle.strlib.specs.Refusal.{answered};
 ghost use Rattle.flat_finds.specs.Runs.{flat_burst};
 
-use bursts::{BurstAnswer, Carried};
+use bursts::Carried;
+use strlib::Refusal;
 
 #[repr(C)]
 #[derive(Clone, Copy)]
@@ -13,16 +14,16 @@ pub struct FlatBurst {
 }
 
 // On a refusal what was given goes back, so that a caller may take the answer's in either case.
-pub fn burst(given: Carried, a: BurstAnswer) -> FlatBurst
-    ensures { result ≡ flat_burst given (burst_answered a) }
+pub fn burst(given: Carried, a: Result<Carried, Refusal>) -> FlatBurst
+    ensures { result ≡ flat_burst given (answered a) }
 {
     match a {
-        BurstAnswer::Carries(carried) => FlatBurst {
+        Ok(carried) => FlatBurst {
             refusal: 0,
             carried,
         },
-        BurstAnswer::Refused(refusal) => FlatBurst {
-            refusal,
+        Err(refusal) => FlatBurst {
+            refusal: u8::from(refusal),
             carried: given,
         },
     }

@@ -22,12 +22,12 @@ fn check_join(store: &[u8], destination: StrPtr, list: &StrList) -> Result<(), R
 pub fn join(
     store: &mut [u8],
     destination: StrPtr,
-    list: &StrList,
+    list: StrList,
     pad: bool,
 ) -> Result<Wrote, Refusal>
-    ensures { (answered result, store.new) ≡ join_rule store.old destination list.now.items list.now.count pad }
+    ensures { (answered result, store.new) ≡ join_rule store.old destination list.items list.count pad }
 {
-    check_join(store, destination, list)?;
+    check_join(store, destination, &list)?;
     let round = super::fill(store, destination, list.strings(), 0, 0);
     Ok(copying::finish(store, destination, round.to.length, pad, round.completed))
 }

@@ -56,17 +56,16 @@ fn check_join_from(
 pub fn join_from(
     store: &mut [u8],
     destination: StrPtr,
-    list: &StrList,
+    list: StrList,
     from: Place,
 ) -> Result<Round, Refusal>
-    ensures { (answered result, store.new) ≡ join_from_rule store.old destination list.now.items list.now.count from }
+    ensures { (answered result, store.new) ≡ join_from_rule store.old destination list.items list.count from }
 {
-    check_join_from(store, destination, list, from)?;
-    let items: &[StrPtr] = &list.items;
+    check_join_from(store, destination, &list, from)?;
     Ok(super::fill(
         store,
         destination,
-        &items[..list.count],
+        list.strings(),
         from.string - 1,
         from.character - 1,
     ))

@@ -78,7 +78,7 @@ fn join(
     strings: &[StrPtr],
     pad: bool,
 ) -> io::Result<StrPtr> {
-    let answer = joining::join(store, destination, &list_of(strings), pad);
+    let answer = joining::join(store, destination, list_of(strings), pad);
     show_copied(rt, name, store, answer)
 }
 
@@ -136,7 +136,7 @@ fn round(rt: &impl Print, call: &str, store: &mut [u8], from: Place) -> io::Resu
         StrPtr::full(10, 5),
         StrPtr::full(15, 5),
     ]);
-    let answer = joining::join_from(store, StrPtr::new(20, 0, 7), &list, from);
+    let answer = joining::join_from(store, StrPtr::new(20, 0, 7), list, from);
     println!(rt;
         "5.2  100 call {call} {}",
         Answer(answer.map(|round| Rounded { store, round }))

@@ -1,4 +1,4 @@
--- Laws of bytes written into a store: each turn puts one byte more behind those written. Assumes nothing.
+-- Laws of bytes written into a store. Assumes nothing.
 use Rattle.std.proofs.Common.{◌≡◌, ℕ, ◌+◌, ◌<◌, ◌≤◌, Bool, true, false, cond, List, length, get_or, set, sym, refl, add-one, arith, take_all, rules}
 use lib.Seq.{paste, paste-zero, paste-suc}
 use Rattle.strlib.proofs.Pointing.{within_so}

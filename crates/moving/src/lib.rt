@@ -16,5 +16,5 @@ pub use turns::reverse_in_place;
 pub fn least(m: usize, n: usize) -> usize
     ensures { result ≡ min m n }
 {
-    if m < n { m } else { n }
+    m.min(n)
 }

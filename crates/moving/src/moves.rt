@@ -3,10 +3,19 @@ ghost use Rattle.std.specs.Prelude.{◌≡◌, ◌+◌, ◌-◌, ◌%◌, ◌<�
 ghost use Rattle.strlib.specs.Store.{put};
 ghost use Rattle.moving.specs.Moving.{moved};
 
-use super::bytes::paste;
+// Byte by byte: with `copy_from_slice` a step of 64 was compiled to two copies, into its block and out of it.
+fn paste(store: &mut [u8], at: usize, bytes: &[u8])
+    requires { at + length bytes.now ≤ length store.old }
+    ensures { store.new ≡ put store.old at bytes.now }
+{
+    for (i, byte) in bytes.iter().enumerate() {
+        store[at + i] = *byte;
+    }
+}
 
 // A step, as wide as the block, whatever that holds: all characters are read before one is written, so that it is right
-// for every distance. Compiled, a step of eight is one move of eight bytes.
+// for every distance. Compiled, a step of eight is one move of eight bytes. The steps are told apart as 02, W3 and the
+// edits of must-fail/ name them.
 fn step(store: &mut [u8], from: usize, to: usize, block: &mut [u8])
     requires { (from + length block.old ≤ length store.old) × (to + length block.old ≤ length store.old) }
     ensures { store.new ≡ put store.old to (take (length block.old) (drop from store.old)) }
@@ -76,14 +85,12 @@ fn move_up(store: &mut [u8], from: usize, to: usize, n: usize)
 pub fn move_characters(store: &mut [u8], from: usize, to: usize, n: usize)
     ensures { store.new ≡ moved store.old from to n }
 {
-    if strlib::is_within(store.len(), from, n) {
-        if strlib::is_within(store.len(), to, n) {
-            // a target before the source wraps round, to more than n, since from + n lies within the store
-            if std::num::wrapping_sub_usize(to, from) < n {
-                move_up(store, from, to, n)
-            } else {
-                move_down(store, from, to, n)
-            }
+    if strlib::is_within(store.len(), from, n) && strlib::is_within(store.len(), to, n) {
+        // a target before the source wraps round, to more than n, since from + n lies within the store
+        if to.wrapping_sub(from) < n {
+            move_up(store, from, to, n)
+        } else {
+            move_down(store, from, to, n)
         }
     }
 }

@@ -32,10 +32,8 @@ struct Seen {
 
 // Bytes differ unless a multiple of 251 places lies between them.
 fn paint(store: &mut [u8]) {
-    let mut i = 0;
-    while i < store.len() {
-        store[i] = (i % 251) as u8;
-        i += 1;
+    for (i, byte) in store.iter_mut().enumerate() {
+        *byte = (i % 251) as u8;
     }
 }
 
@@ -45,13 +43,7 @@ fn weigh_one(sum: usize, x: u8) -> usize {
 }
 
 fn weigh(sum: usize, bytes: &[u8]) -> usize {
-    let mut s = sum;
-    let mut i = 0;
-    while i < bytes.len() {
-        s = weigh_one(s, bytes[i]);
-        i += 1;
-    }
-    s
+    bytes.iter().fold(sum, |sum, x| weigh_one(sum, *x))
 }
 
 fn trial(seen: Seen, from: usize, to: usize, n: usize) -> Seen {
@@ -61,21 +53,19 @@ fn trial(seen: Seen, from: usize, to: usize, n: usize) -> Seen {
     let mut by_new = before;
     old::move_characters(&mut by_old, from, to, n);
     moving::move_characters(&mut by_new, from, to, n);
-    let alike = strlib::both(seen.alike, words::are_same(&by_old, &by_new));
-    let still = strlib::both(seen.still, words::are_same(&before, &by_new));
+    let alike = seen.alike && by_old == by_new;
+    let still = seen.still && before == by_new;
     let sum = weigh(seen.sum, &by_new);
     Seen { alike, still, sum }
 }
 
 fn at_distance(seen: Seen, n: usize, d: usize) -> Seen {
-    if n <= STORE {
-        if d <= STORE - n {
-            let far = STORE - n - d;
-            let seen = trial(seen, d, 0, n);
-            let seen = trial(seen, 0, d, n);
-            let seen = trial(seen, far + d, far, n);
-            return trial(seen, far, far + d, n);
-        }
+    if n <= STORE && d <= STORE - n {
+        let far = STORE - n - d;
+        let seen = trial(seen, d, 0, n);
+        let seen = trial(seen, 0, d, n);
+        let seen = trial(seen, far + d, far, n);
+        return trial(seen, far, far + d, n);
     }
     seen
 }
@@ -119,10 +109,8 @@ fn nothing_yet() -> Seen {
 
 fn of_length(n: usize) {
     let mut seen = end_to_end(nothing_yet(), n);
-    let mut k = 0;
-    while k < 16 {
-        seen = at_both(seen, n, DISTANCES[k]);
-        k += 1;
+    for k in DISTANCES {
+        seen = at_both(seen, n, k);
     }
     say(b"length");
     say_number(n);
@@ -131,7 +119,7 @@ fn of_length(n: usize) {
 
 // Places outside the store: one byte too far, then so far that place and length wrap round.
 fn outside() {
-    let most = 18446744073709551615;
+    let most = usize::MAX;
     let seen = nothing_yet();
     let seen = trial(seen, STORE - 7, 0, 8);
     let seen = trial(seen, 0, STORE - 7, 8);
@@ -151,10 +139,8 @@ fn outside() {
 }
 
 fn main() {
-    let mut k = 0;
-    while k < 33 {
-        of_length(LENGTHS[k]);
-        k += 1;
+    for n in LENGTHS {
+        of_length(n);
     }
     outside();
 }

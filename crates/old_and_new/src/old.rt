@@ -1,4 +1,5 @@
-// The leaf as it was before 02, W3: one character a turn, with the promise that `moving::move_characters` still makes.
+// The leaf as it was before 02, W3, with its loops word for word, which are compared with today's: one character a turn,
+// with the promise that `moving::move_characters` still makes.
 ghost use Rattle.std.specs.Prelude.{◌≡◌, ◌+◌, ◌≤◌, length, take, drop};
 ghost use Rattle.strlib.specs.Store.{put};
 ghost use Rattle.moving.specs.Moving.{moved};

@@ -17,5 +17,5 @@ pub extern "C" fn strlib_compare(
 ) -> FlatComparison
     ensures { result ≡ flat_comparison (compare_rule store.now string1 string2 code style translation) }
 {
-    flat::comparison(compare::compare(store, string1, string2, code, style, translation))
+    FlatComparison::from(compare::compare(store, string1, string2, code, style, translation))
 }

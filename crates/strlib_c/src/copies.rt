@@ -5,9 +5,9 @@ ghost use Rattle.joining.specs.Joining.{join_rule};
 ghost use Rattle.joining.specs.Resuming.{join_from_rule};
 ghost use Rattle.flat.specs.Strings.{flat_with, flat_copied, flat_round};
 
-use flat::{FlatCopied, FlatList, FlatRound};
+use flat::{FlatCopied, FlatRound};
 use joining::Place;
-use strlib::StrPtr;
+use strlib::{StrList, StrPtr};
 
 #[unsafe(no_mangle)]
 pub extern "C" fn strlib_copy(
@@ -18,38 +18,36 @@ pub extern "C" fn strlib_copy(
 ) -> FlatCopied
     ensures { (result, store.new) ≡ flat_with flat_copied (copy_rule store.old destination source pad) }
 {
-    flat::copied(copying::copy(store, destination, source, pad))
+    FlatCopied::from(copying::copy(store, destination, source, pad))
 }
 
 #[unsafe(no_mangle)]
 pub extern "C" fn strlib_append(store: &mut [u8], destination: StrPtr, source: StrPtr) -> FlatCopied
     ensures { (result, store.new) ≡ flat_with flat_copied (append_rule store.old destination source) }
 {
-    flat::copied(copying::append(store, destination, source))
+    FlatCopied::from(copying::append(store, destination, source))
 }
 
 #[unsafe(no_mangle)]
 pub extern "C" fn strlib_join(
     store: &mut [u8],
     destination: StrPtr,
-    list: FlatList,
+    list: StrList,
     pad: bool,
 ) -> FlatCopied
     ensures { (result, store.new) ≡ flat_with flat_copied (join_rule store.old destination list.items list.count pad) }
 {
-    let items = list.items;
-    flat::copied(joining::join(store, destination, items, list.count, pad))
+    FlatCopied::from(joining::join(store, destination, list, pad))
 }
 
 #[unsafe(no_mangle)]
 pub extern "C" fn strlib_join_from(
     store: &mut [u8],
     destination: StrPtr,
-    list: FlatList,
+    list: StrList,
     from: Place,
 ) -> FlatRound
     ensures { (result, store.new) ≡ flat_with flat_round (join_from_rule store.old destination list.items list.count from) }
 {
-    let items = list.items;
-    flat::round(joining::join_from(store, destination, items, list.count, from))
+    FlatRound::from(joining::join_from(store, destination, list, from))
 }

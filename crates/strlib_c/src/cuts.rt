@@ -13,7 +13,7 @@ use strlib::StrPtr;
 pub extern "C" fn strlib_relative(store: &[u8], string: StrPtr, offset: usize) -> FlatString
     ensures { result ≡ flat_string (cut_rule store.now string (Relative offset)) }
 {
-    flat::string(cutting::relative(store, string, offset))
+    FlatString::from(cutting::relative(store, string, offset))
 }
 
 #[unsafe(no_mangle)]
@@ -25,7 +25,7 @@ pub extern "C" fn strlib_counted(
 ) -> FlatString
     ensures { result ≡ flat_string (cut_rule store.now string (Counted position count)) }
 {
-    flat::string(cutting::counted(store, string, position, count))
+    FlatString::from(cutting::counted(store, string, position, count))
 }
 
 #[unsafe(no_mangle)]
@@ -37,47 +37,47 @@ pub extern "C" fn strlib_between(
 ) -> FlatString
     ensures { result ≡ flat_string (cut_rule store.now string (Between pos1 pos2)) }
 {
-    flat::string(cutting::between(store, string, pos1, pos2))
+    FlatString::from(cutting::between(store, string, pos1, pos2))
 }
 
 #[unsafe(no_mangle)]
 pub extern "C" fn strlib_trim(store: &[u8], string: StrPtr) -> FlatString
     ensures { result ≡ flat_string (cut_rule store.now string Trimmed) }
 {
-    flat::string(cutting::trim(store, string))
+    FlatString::from(cutting::trim(store, string))
 }
 
 #[unsafe(no_mangle)]
 pub extern "C" fn strlib_relative_part(bytes: &[u8], offset: usize) -> FlatPart
     ensures { result ≡ flat_part (slice_cut bytes.now (Relative offset)) }
 {
-    flat::part(cutting::place_of(bytes, Cut::Relative(offset)))
+    FlatPart::from(cutting::place_of(bytes, Cut::Relative(offset)))
 }
 
 #[unsafe(no_mangle)]
 pub extern "C" fn strlib_counted_part(bytes: &[u8], position: usize, count: usize) -> FlatPart
     ensures { result ≡ flat_part (slice_cut bytes.now (Counted position count)) }
 {
-    flat::part(cutting::place_of(bytes, Cut::Counted(position, count)))
+    FlatPart::from(cutting::place_of(bytes, Cut::Counted(position, count)))
 }
 
 #[unsafe(no_mangle)]
 pub extern "C" fn strlib_between_part(bytes: &[u8], pos1: usize, pos2: usize) -> FlatPart
     ensures { result ≡ flat_part (slice_cut bytes.now (Between pos1 pos2)) }
 {
-    flat::part(cutting::place_of(bytes, Cut::Between(pos1, pos2)))
+    FlatPart::from(cutting::place_of(bytes, Cut::Between(pos1, pos2)))
 }
 
 #[unsafe(no_mangle)]
 pub extern "C" fn strlib_trimmed_part(bytes: &[u8]) -> FlatPart
     ensures { result ≡ flat_part (slice_cut bytes.now Trimmed) }
 {
-    flat::part(cutting::place_of(bytes, Cut::Trimmed))
+    FlatPart::from(cutting::place_of(bytes, Cut::Trimmed))
 }
 
 #[unsafe(no_mangle)]
 pub extern "C" fn strlib_desk_label(production: &[u8], house: &[u8]) -> FlatLabel
     ensures { result ≡ flat_label (label_place production.now house.now) }
 {
-    flat::label(cutting::label_place(production, house))
+    FlatLabel::from(cutting::label_place(production, house))
 }

@@ -13,21 +13,21 @@ use flat_finds::FlatName;
 pub extern "C" fn strlib_read_cue(line: &[u8], microphones: usize, loudspeakers: usize) -> FlatCue
     ensures { result ≡ flat_cue (cue_word_rule line.now microphones loudspeakers) }
 {
-    flat::cue(desk::read_cue(line, microphones, loudspeakers))
+    FlatCue::from(desk::read_cue(line, microphones, loudspeakers))
 }
 
 #[unsafe(no_mangle)]
 pub extern "C" fn strlib_read_labels(list: &[u8]) -> FlatSize
     ensures { result ≡ flat_size (read_labels_rule list.now) }
 {
-    flat::records(desk::read_labels(list))
+    FlatSize::from(desk::read_labels(list))
 }
 
 #[unsafe(no_mangle)]
 pub extern "C" fn strlib_find_label(list: &[u8], kind: usize, number: usize) -> FlatName
     ensures { result ≡ flat_name (find_label_rule list.now kind number) }
 {
-    flat_finds::name(desk::find_label(list, kind, number))
+    FlatName::from(desk::find_label(list, kind, number))
 }
 
 #[unsafe(no_mangle)]
@@ -47,5 +47,5 @@ pub extern "C" fn strlib_add_label(
 ) -> FlatSize
     ensures { (result, buffer.new) ≡ flat_with flat_size (add_rule buffer.old used kind number name.now) }
 {
-    flat::added(desk::add_label(buffer, used, kind, number, name))
+    FlatSize::from(desk::add_label(buffer, used, kind, number, name))
 }

@@ -16,14 +16,14 @@ pub extern "C" fn strlib_replace(
 ) -> FlatString
     ensures { (result, store.new) ≡ flat_with flat_string (replace_rule store.old string1 string2 string3) }
 {
-    flat::string(editing::replace(store, string1, string2, string3))
+    FlatString::from(editing::replace(store, string1, string2, string3))
 }
 
 #[unsafe(no_mangle)]
 pub extern "C" fn strlib_reverse(store: &mut [u8], string: StrPtr) -> FlatString
     ensures { (result, store.new) ≡ flat_with flat_string (reverse_rule store.old string) }
 {
-    flat::string(editing::reverse(store, string))
+    FlatString::from(editing::reverse(store, string))
 }
 
 #[unsafe(no_mangle)]
@@ -34,5 +34,5 @@ pub extern "C" fn strlib_reverse_from(
 ) -> FlatString
     ensures { (result, store.new) ≡ flat_with flat_string (reverse_from_rule store.old destination source) }
 {
-    flat::string(editing::reverse_from(store, destination, source))
+    FlatString::from(editing::reverse_from(store, destination, source))
 }

@@ -11,7 +11,7 @@ use strlib::StrPtr;
 pub extern "C" fn strlib_read_number(store: &[u8], string: StrPtr, base: usize) -> FlatNumber
     ensures { result ≡ flat_number (read_rule store.now string base) }
 {
-    flat::number(number::read(store, string, base))
+    FlatNumber::from(number::read(store, string, base))
 }
 
 #[unsafe(no_mangle)]
@@ -23,5 +23,5 @@ pub extern "C" fn strlib_write_number(
 ) -> FlatString
     ensures { (result, store.new) ≡ flat_with flat_string (write_rule store.old destination value base) }
 {
-    flat::string(number::write(store, destination, value, base))
+    FlatString::from(number::write(store, destination, value, base))
 }

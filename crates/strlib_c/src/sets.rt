@@ -12,14 +12,14 @@ use strlib::StrPtr;
 pub extern "C" fn strlib_clear_tables(block: &mut [u64], mask: u64) -> u8
     ensures { (result, block.new) ≡ flat_with flat_done (tables_rule false block.old mask) }
 {
-    flat::set(charset::clear_tables(block, mask))
+    flat::refusal_number(charset::clear_tables(block, mask))
 }
 
 #[unsafe(no_mangle)]
 pub extern "C" fn strlib_fill_tables(block: &mut [u64], mask: u64) -> u8
     ensures { (result, block.new) ≡ flat_with flat_done (tables_rule true block.old mask) }
 {
-    flat::set(charset::fill_tables(block, mask))
+    flat::refusal_number(charset::fill_tables(block, mask))
 }
 
 #[unsafe(no_mangle)]
@@ -31,7 +31,7 @@ pub extern "C" fn strlib_add_characters(
 ) -> u8
     ensures { (result, block.new) ≡ flat_with flat_done (characters_rule true store.now string block.old mask) }
 {
-    flat::set(charset::add_characters(store, string, block, mask))
+    flat::refusal_number(charset::add_characters(store, string, block, mask))
 }
 
 #[unsafe(no_mangle)]
@@ -43,7 +43,7 @@ pub extern "C" fn strlib_remove_characters(
 ) -> u8
     ensures { (result, block.new) ≡ flat_with flat_done (characters_rule false store.now string block.old mask) }
 {
-    flat::set(charset::remove_characters(store, string, block, mask))
+    flat::refusal_number(charset::remove_characters(store, string, block, mask))
 }
 
 #[unsafe(no_mangle)]
@@ -55,7 +55,7 @@ pub extern "C" fn strlib_find_first(
 ) -> FlatCharacter
     ensures { result ≡ flat_character (find_rule false store.now host block.now mask) }
 {
-    flat_finds::character(charset::find_first(store, host, block, mask))
+    FlatCharacter::from(charset::find_first(store, host, block, mask))
 }
 
 #[unsafe(no_mangle)]
@@ -67,5 +67,5 @@ pub extern "C" fn strlib_find_last(
 ) -> FlatCharacter
     ensures { result ≡ flat_character (find_rule true store.now host block.now mask) }
 {
-    flat_finds::character(charset::find_last(store, host, block, mask))
+    FlatCharacter::from(charset::find_last(store, host, block, mask))
 }

@@ -8,23 +8,21 @@ ghost use Rattle.flat_finds.specs.Runs.{flat_burst};
 ghost use Rattle.flat.specs.Values.{done};
 
 use bursts::Carried;
-use flat::FlatList;
 use flat_finds::{FlatBurst, FlatNote};
-use strlib::StrPtr;
+use strlib::{StrList, StrPtr};
 
 #[unsafe(no_mangle)]
-pub extern "C" fn strlib_translate(store: &[u8], list: FlatList, table: &mut [u16]) -> u8
+pub extern "C" fn strlib_translate(store: &[u8], list: StrList, table: &mut [u16]) -> u8
     ensures { Translated store.now list.items list.count table.old (done result) table.new }
 {
-    let items = list.items;
-    flat::translated(translator::translate(store, items, list.count, table))
+    flat::refusal_number(translator::translate(store, list, table))
 }
 
 #[unsafe(no_mangle)]
 pub extern "C" fn strlib_run(store: &[u8], host: StrPtr, table: &[u16]) -> FlatNote
     ensures { result ≡ flat_note (run_rule store.now host table.now) }
 {
-    flat_finds::note(table::run(store, host, table))
+    FlatNote::from(table::run(store, host, table))
 }
 
 #[unsafe(no_mangle)]

@@ -12,9 +12,6 @@ use lib.Signed.{lt_z}
 use mir.Syntax.{w64}
 use mir.Val.{SFits, to_z, of_z}
 use mir.Facts.{to_z-of_z}
-use Rattle.strlib.proofs.Pointing.{text_front}
-use Rattle.strlib.specs.Pointer.{pointer, text_of}
-use Rattle.strlib.specs.declared.StrPtr.{StrPtr}
 use Rattle.io.specs.Counts.{clamp_len}
 use Rattle.buffer.specs.Buffer.{grown}
 use Rattle.endings.specs.Ending.{is_going, after_write}
@@ -45,44 +42,43 @@ wrote_is done r e p = rw p
 -- ---- after a read
 
 module _ (got : ℤ) (fits : SFits w64 got) (piece : List ℕ) (r : Run) (h o : List ℕ) (b : Bool) (eb : b ≡ is_going r.ending) where
-  pub read_not : (t : State) → b ≡ false → t ≡ telling r.state 0 → stage (record { state = t; ending = r.ending }) h o ≡ after_read got piece r h o
+  pub read_not : b ≡ false → stage (record { state = telling r.state 0; ending = r.ending }) h o ≡ after_read got piece r h o
   unfolding after_read silent
-  read_not t f e = rw (← eb, f, e)
+  read_not f = rw (← eb, f)
 
   module _ (f : b ≡ true) where
     going : read_by got piece r.state h o ≡ after_read got piece r h o
     unfolding after_read
     going = rw (← eb, f)
 
-    pub read_failed : (t : State) → lt_z (to_z w64 (of_z w64 got)) (pos 0) ≡ true → t ≡ telling r.state 0
-        → stage (record { state = t; ending = Unread }) h o ≡ after_read got piece r h o
+    pub read_failed : lt_z (to_z w64 (of_z w64 got)) (pos 0) ≡ true → stage (record { state = telling r.state 0; ending = Unread }) h o ≡ after_read got piece r h o
     unfolding read_by silent
-    read_failed t l e = go got (rw (to_z-of_z fits) at l) ∙ going
+    read_failed l = go got (rw (to_z-of_z fits) at l) ∙ going
       where
-        go : (z : ℤ) → lt_z z (pos 0) ≡ true → stage (record { state = t; ending = Unread }) h o ≡ read_by z piece r.state h o
+        go : (z : ℤ) → lt_z z (pos 0) ≡ true → stage (record { state = telling r.state 0; ending = Unread }) h o ≡ read_by z piece r.state h o
         go (pos n) q = absurd (omega (arith, ltb-true n 0 q))
-        go (negsuc n) q = rw e
+        go (negsuc n) q = refl
 
-    pub read_end : (n : ℕ) (t : State) (o' : List ℕ) → of_z w64 got ≡ 0 → (n, o') ≡ grown o 0 (end_text r.state.lines r.state.ok (take r.state.held h))
-        → t ≡ telling r.state n → stage (record { state = t; ending = Complete }) h o' ≡ after_read got piece r h o
+    pub read_end : (n : ℕ) (o' : List ℕ) → of_z w64 got ≡ 0 → (n, o') ≡ grown o 0 (end_text r.state.lines r.state.ok (take r.state.held h))
+        → stage (record { state = telling r.state n; ending = Complete }) h o' ≡ after_read got piece r h o
     unfolding read_by finished
-    read_end n t o' z g e =
+    read_end n o' z g =
         let zero_is : got ≡ pos 0 = sym (to_z-of_z fits) ∙ ap (to_z w64) z in
         let g0 : n ≡ (grown o 0 (end_text r.state.lines r.state.ok (take r.state.held h))).0 = ap (λ (y : ℕ × List ℕ). y.0) g in
         let g1 : o' ≡ (grown o 0 (end_text r.state.lines r.state.ok (take r.state.held h))).1 = ap (λ (y : ℕ × List ℕ). y.1) g in
-        let q : stage (record { state = t; ending = Complete }) h o' ≡ read_by (pos 0) piece r.state h o = rw (← g0, ← g1, e) in
+        let q : stage (record { state = telling r.state n; ending = Complete }) h o' ≡ read_by (pos 0) piece r.state h o = rw (← g0, ← g1) in
         q ∙ ap (λ (y : ℤ). read_by y piece r.state h o) (sym zero_is) ∙ going
 
-    pub read_more : (n : ℕ) (w : StrPtr) (x : List ℕ) (t : State) (h' o' : List ℕ) → lt_z (to_z w64 (of_z w64 got)) (pos 0) ≡ false → (of_z w64 got ≡ 0 → ⊥)
-        → n ≡ clamp_len got (length piece) → w ≡ pointer 0 n n → x ≡ text_of piece w → (t, (h', o')) ≡ fed_by x r.state h o
+    pub read_more : (n : ℕ) (t : State) (h' o' : List ℕ) → lt_z (to_z w64 (of_z w64 got)) (pos 0) ≡ false → (of_z w64 got ≡ 0 → ⊥)
+        → n ≡ clamp_len (to_z w64 (of_z w64 got)) (length piece) → (t, (h', o')) ≡ fed_by (take n piece) r.state h o
         → stage (record { state = t; ending = Going }) h' o' ≡ after_read got piece r h o
     unfolding read_by fed
-    read_more n w x t h' o' l z c ew ex d = ap (λ (y : State × (List ℕ × List ℕ)). stage (record { state = y.0; ending = Going }) y.1.0 y.1.1) d ∙ go got (rw (to_z-of_z fits) at l) z c ∙ going
+    read_more n t h' o' l z c d = ap (λ (y : State × (List ℕ × List ℕ)). stage (record { state = y.0; ending = Going }) y.1.0 y.1.1) d ∙ go got (rw (to_z-of_z fits) at l) z (rw (to_z-of_z fits) at c) ∙ going
       where
-        go : (y : ℤ) → lt_z y (pos 0) ≡ false → (of_z w64 y ≡ 0 → ⊥) → n ≡ clamp_len y (length piece) → fed x r.state h o ≡ read_by y piece r.state h o
+        go : (y : ℤ) → lt_z y (pos 0) ≡ false → (of_z w64 y ≡ 0 → ⊥) → n ≡ clamp_len y (length piece) → fed (take n piece) r.state h o ≡ read_by y piece r.state h o
         go (pos zero) p u v = absurd (u refl)
         go (pos (suc k)) p u v =
-            let tx : x ≡ take (suc k) piece = ex ∙ ap (text_of piece) ew ∙ text_front piece n n ∙ ap (λ (i : ℕ). take i piece) v ∙ take_clamped (suc k) piece in
+            let tx : take n piece ≡ take (suc k) piece = ap (λ (i : ℕ). take i piece) v ∙ take_clamped (suc k) piece in
             rw tx
         go (negsuc k) p u v = absurd (true≢false p)
 

@@ -3,29 +3,16 @@
 #![tactic(auto)]
 
 ghost use Rattle.std.specs.Prelude.{◌≡◌};
-ghost use Rattle.turns.specs.Turn.{stage, telling, after_read, wrote, begun};
+ghost use Rattle.turns.specs.Turn.{stage, after_read, wrote, begun};
 
 use answers::State;
 use endings::Ending;
-use strlib::StrPtr;
 
 // The state, and how the run stands.
 #[derive(Clone, Copy)]
 pub struct Run {
     pub state: State,
     pub ending: Ending,
-}
-
-// The state with n bytes of answers to write.
-fn with_text(s: State, n: usize) -> State
-    ensures { result ≡ telling s n }
-{
-    State {
-        lines: s.lines,
-        ok: s.ok,
-        held: s.held,
-        out: n,
-    }
 }
 
 // The heading is to be written.
@@ -56,31 +43,30 @@ pub fn after_read(
     ensures { stage result hold.new out.new ≡ after_read got piece.now run hold.old out.old }
 {
     let s = run.state;
-    let ending = run.ending;
-    if endings::is_going(ending) {
-        if got < 0 {
-            return Run {
-                state: with_text(s, 0),
-                ending: Ending::Unread,
-            };
-        }
-        if got == 0 {
-            let n = answers::finish(hold, out, s);
-            return Run {
-                state: with_text(s, n),
-                ending: Ending::Complete,
-            };
-        }
-        let n = io::count(got, piece);
-        let t = answers::feed(strlib::text(piece, StrPtr::full(0, n)), hold, out, s);
+    if !endings::is_going(run.ending) {
         return Run {
-            state: t,
-            ending: Ending::Going,
+            state: State { out: 0, ..s },
+            ..run
         };
     }
+    if got < 0 {
+        return Run {
+            state: State { out: 0, ..s },
+            ending: Ending::Unread,
+        };
+    }
+    if got == 0 {
+        let n = answers::finish(hold, out, s);
+        return Run {
+            state: State { out: n, ..s },
+            ending: Ending::Complete,
+        };
+    }
+    let n = io::count(got, piece);
+    let state = answers::feed(&piece[..n], hold, out, s);
     Run {
-        state: with_text(s, 0),
-        ending,
+        state,
+        ending: Ending::Going,
     }
 }
 
@@ -88,10 +74,8 @@ pub fn after_read(
 pub fn after_write(done: bool, run: Run) -> Run
     ensures { result ≡ wrote done run }
 {
-    let s = run.state;
-    let ending = run.ending;
     Run {
-        state: s,
-        ending: endings::after_write(done, ending),
+        ending: endings::after_write(done, run.ending),
+        ..run
     }
 }

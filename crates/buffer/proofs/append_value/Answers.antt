@@ -1,8 +1,8 @@
 use Rattle.buffer.proofs.Valuing.{value_laws}
 use Rattle.buffer.proofs.append_value.Goals as goal
 
-pub returns-in-Given : goal.returns-in-Given
-returns-in-Given c = search value_laws
+pub returns-in-Ok : goal.returns-in-Ok
+returns-in-Ok c = search value_laws
 
-pub returns-in-Refused : goal.returns-in-Refused
-returns-in-Refused c = search value_laws
+pub returns-in-Err : goal.returns-in-Err
+returns-in-Err c = search value_laws

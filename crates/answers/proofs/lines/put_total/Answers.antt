@@ -3,5 +3,5 @@ use Rattle.answers.proofs.lines.put_total.Goals as goal
 
 pub returns : goal.returns
 returns c =
-    total_is _ _ _ _ _ _ _ _ _ _ _ _ _ c.minus.ensures c.append_both-n.ensures c.append_both-n-2.ensures c.append_both-n-3.ensures
+    total_is _ _ _ _ _ _ _ _ _ _ _ _ _ c.saturating_sub.ensures c.append_both-n.ensures c.append_both-n-2.ensures c.append_both-n-3.ensures
     c.append.ensures

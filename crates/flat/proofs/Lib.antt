@@ -1,2 +1,0 @@
-pub mod StringLaws
-pub mod ValueLaws

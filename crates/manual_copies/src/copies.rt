@@ -15,11 +15,7 @@ struct Copied<'a> {
 impl fmt::Display for Copied<'_> {
     fn fmt<W: fmt::Write>(&self, f: &mut fmt::Formatter<W>) -> fmt::Result {
         let Wrote { to, completed } = self.wrote;
-        let shown = Shown {
-            store: self.store,
-            string: to,
-        };
-        write!(f, "{} {shown}", Yes(completed))
+        write!(f, "{} {}", Yes(completed), Shown::new(self.store, to))
     }
 }
 
@@ -32,17 +28,9 @@ struct Rounded<'a> {
 
 impl fmt::Display for Rounded<'_> {
     fn fmt<W: fmt::Write>(&self, f: &mut fmt::Formatter<W>) -> fmt::Result {
-        let Round {
-            to,
-            completed,
-            next,
-        } = self.round;
-        let shown = Shown {
-            store: self.store,
-            string: to,
-        };
-        let yes = Yes(completed);
-        write!(f, "{yes} {shown}, next {} {}", next.string, next.character)
+        let r = self.round;
+        write!(f, "{} {}", Yes(r.completed), Shown::new(self.store, r.to))?;
+        write!(f, ", next {} {}", r.next.string, r.next.character)
     }
 }
 
@@ -153,7 +141,7 @@ fn round(rt: &impl Print, call: &str, store: &mut [u8], from: Place) -> io::Resu
         "5.2  100 call {call} {}",
         Answer(answer.map(|round| Rounded { store, round }))
     )?;
-    Ok(answer.map(|round| round.next).unwrap_or(from))
+    Ok(answer.map_or(from, |round| round.next))
 }
 
 // Part one. The manual says that seven characters are written the third time too; only six are left.

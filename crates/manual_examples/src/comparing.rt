@@ -88,8 +88,8 @@ fn styles(rt: &impl Print, store: &[u8]) -> io::Result<()> {
     Ok(())
 }
 
-// The calls at their statement numbers, for equality of padded strings. The manual means capitals: it gives octal 101 as
-// the code of "a".
+// The calls at their statement numbers, for equality of padded strings. The manual means capitals: it gives octal 101
+// as the code of "a".
 fn translations(rt: &impl Print, store: &[u8]) -> io::Result<()> {
     let abcde = StrPtr::full(0, 5);
     let s12345 = StrPtr::full(5, 5);

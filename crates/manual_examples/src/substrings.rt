@@ -19,7 +19,7 @@ fn cuts(rt: &impl Print, store: &[u8], digits: StrPtr) -> io::Result<()> {
         (4, between(store, digits, 7, 0)),
     ];
     for (number, string) in sps {
-        println!(rt; "3.3  sp {number} {}", Shown { store, string })?;
+        println!(rt; "3.3  sp {number} {}", Shown::new(store, string))?;
     }
     Ok(())
 }

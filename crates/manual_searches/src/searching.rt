@@ -14,38 +14,10 @@ struct Matched<'a> {
 
 impl fmt::Display for Matched<'_> {
     fn fmt<W: fmt::Write>(&self, f: &mut fmt::Formatter<W>) -> fmt::Result {
-        let store = self.store;
-        let Match {
-            number,
-            before,
-            matched,
-            after,
-        } = self.found;
-        write!(f, "{number}")?;
-        write!(
-            f,
-            " before {}",
-            Shown {
-                store,
-                string: before
-            }
-        )?;
-        write!(
-            f,
-            ", match {}",
-            Shown {
-                store,
-                string: matched
-            }
-        )?;
-        write!(
-            f,
-            ", after {}",
-            Shown {
-                store,
-                string: after
-            }
-        )
+        let shown = |string| Shown::new(self.store, string);
+        let m = self.found;
+        write!(f, "{} before {}", m.number, shown(m.before))?;
+        write!(f, ", match {}, after {}", shown(m.matched), shown(m.after))
     }
 }
 
@@ -58,29 +30,9 @@ struct Halves<'a> {
 
 impl fmt::Display for Halves<'_> {
     fn fmt<W: fmt::Write>(&self, f: &mut fmt::Formatter<W>) -> fmt::Result {
-        let store = self.store;
-        let Split {
-            number,
-            front,
-            back,
-        } = self.split;
-        write!(f, "{number}")?;
-        write!(
-            f,
-            " {}",
-            Shown {
-                store,
-                string: front
-            }
-        )?;
-        write!(
-            f,
-            " {}",
-            Shown {
-                store,
-                string: back
-            }
-        )
+        let shown = |string| Shown::new(self.store, string);
+        let s = self.split;
+        write!(f, "{} {} {}", s.number, shown(s.front), shown(s.back))
     }
 }
 
@@ -131,10 +83,10 @@ fn show_split(
 
 fn part_four(rt: &impl Print, store: &[u8], digits: StrPtr) -> io::Result<()> {
     let l2 = list_of(&[StrPtr::full(35, 2)]);
-    let answer = search::search_match_after(store, digits, &l2);
+    let answer = search::search_match_after(store, digits, l2);
     show_split(rt, "sp2 sp1 (manual: sp2 is '12')", store, answer)?;
     let l3 = list_of(&[StrPtr::full(37, 2)]);
-    let answer = search::search_before_match(store, digits, &l3);
+    let answer = search::search_before_match(store, digits, l3);
     show_split(rt, "sp3 sp4 (manual: sp3 is '123')", store, answer)
 }
 
@@ -159,15 +111,12 @@ fn find(
     strings: &[StrPtr],
 ) -> io::Result<StrPtr> {
     match search::search(store, host, list_of(strings)) {
-        Ok(
-            Some(
-                Match {
-                    number,
-                    matched,
-                    ..
-                },
-            ),
-        ) => {
+        Ok(Some(found)) => {
+            let Match {
+                number,
+                matched,
+                ..
+            } = found;
             println!(rt; "5.3  {name} {} {number} {}", matched.start, matched.length)?;
             Ok(matched)
         }

@@ -11,8 +11,14 @@ pub struct Yes(pub bool);
 // A string in its store: its characters, its length and its maximum.
 #[derive(Clone, Copy)]
 pub struct Shown<'a> {
-    pub store: &'a [u8],
-    pub string: StrPtr,
+    store: &'a [u8],
+    string: StrPtr,
+}
+
+impl<'a> Shown<'a> {
+    pub fn new(store: &'a [u8], string: StrPtr) -> Self {
+        Self { store, string }
+    }
 }
 
 // What a search gives, or that there is nothing.
@@ -25,10 +31,8 @@ pub struct Answer<T>(pub Result<T, Refusal>);
 
 impl fmt::Display for Yes {
     fn fmt<W: fmt::Write>(&self, f: &mut fmt::Formatter<W>) -> fmt::Result {
-        match self.0 {
-            true => write!(f, "yes"),
-            false => write!(f, "no"),
-        }
+        let word = if self.0 { "yes" } else { "no" };
+        write!(f, "{word}")
     }
 }
 
@@ -62,12 +66,12 @@ impl<T: fmt::Display> fmt::Display for Answer<T> {
 
 // Of a call that gives a string or refuses.
 pub fn string_answer(store: &[u8], answer: Result<StrPtr, Refusal>) -> Answer<Shown> {
-    Answer(answer.map(|string| Shown { store, string }))
+    Answer(answer.map(|string| Shown::new(store, string)))
 }
 
 // A line for a string.
 pub fn show(rt: &impl Print, name: &str, store: &[u8], string: StrPtr) -> io::Result<()> {
-    println!(rt; "{name} {}", Shown { store, string })
+    println!(rt; "{name} {}", Shown::new(store, string))
 }
 
 // The string that a call gave, to go on with; the null string where it refused.

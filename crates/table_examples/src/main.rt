@@ -56,11 +56,12 @@ impl fmt::Display for Line {
             Some(Note { string, pos1, pos2 }) => write!(f, "{string}, {pos1} to {pos2}")?,
             None => write!(f, "nothing")?,
         }
-        write!(f, ", read {}, ", self.ran.read)?;
-        match self.same {
-            true => write!(f, "plain the same"),
-            false => write!(f, "PLAIN DIFFERS"),
-        }
+        let plain = if self.same {
+            "plain the same"
+        } else {
+            "PLAIN DIFFERS"
+        };
+        write!(f, ", read {}, {plain}", self.ran.read)
     }
 }
 

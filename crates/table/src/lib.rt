@@ -125,8 +125,7 @@ fn walk(text: &[u8], table: &[u16], size: usize, from: Progress) -> Option<Progr
 #[tactic(auto, using(crate::proofs::Running::on_laws))]
 fn read_on(text: &[u8], table: &[u16], size: usize, from: Progress) -> Option<Progress>
     requires { Entered table.now size from.state (from.read + length text.now) × (characters text.now ≡ true) }
-    ensures { walked_of result
-        ≡ walk table.now size text.now (enter table.now from.state from.read (noted_as from.last)) }
+    ensures { walked_of result ≡ walk table.now size text.now (enter table.now from.state from.read (noted_as from.last)) }
 {
     walk(text, table, size, enter(table, size, from)?)
 }

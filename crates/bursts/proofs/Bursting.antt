@@ -17,9 +17,9 @@ use Rattle.strlib.specs.Pointer.{characters}
 use Rattle.strlib.specs.Refusal.{Outcome, refused, gives, first, outcome}
 use Rattle.search.specs.Search.{Result}
 use Rattle.table.proofs.Resuming.{resumed_is}
-use Rattle.table.specs.Run.{noted_as, size_of, is_sized, Walk, bad, rests, only_if, is_rest}
+use Rattle.table.specs.Run.{size_of, is_sized, Walk, bad, rests, only_if, is_rest}
 use Rattle.table.specs.Resume.{read_on, resumed}
-use Rattle.table.specs.Inner.{rests_of}
+use Rattle.table.specs.Inner.{rests_of, note_of}
 use Rattle.table.specs.declared.Progress.{Progress}
 use Rattle.bursts.specs.Bursts.{carried_note, carried_by, is_note, agrees, is_sound, is_carried, delivery_checks, before_burst_checks, before_burst, walked, burst_refusal, carried_on, burst_rule}
 use Rattle.bursts.specs.Inner.{own_refusal}
@@ -136,6 +136,9 @@ module _ (c : Carried) (b ws : List ℕ) where
   burst_refused k e h = burst_no c b ws k (own_before c b ws k e h) h
 
   module _ (z : 0 ≡ own_refusal c b) where
+    pub burst_note : is_note c.read (carried_note c) ≡ true
+    burst_note = (own_sound c b (sym z)).note
+
     pub burst_fits : Fits w64 (c.total + length b)
     burst_fits = record { fits = omega (arith, (delivered c b (sym z)).total) }
 
@@ -155,9 +158,9 @@ module _ (c : Carried) (b ws : List ℕ) where
       resting : {q n q' n' : ℕ} {r r' : Result} → rests q n r ≡ rests q' n' r' → (q ≡ q') × (n ≡ n') × (r ≡ r')
       resting h = (cc, cc, cc)
 
-      pub burst_rests : (w : Walk) → w ≡ resumed ws b p.state p.read (noted_as p.last) → answer_at (c.total + length b) w ≡ burst_rule c b ws
+      pub burst_rests : (w : Walk) → w ≡ resumed ws b p.state p.read (note_of p.last) → answer_at (c.total + length b) w ≡ burst_rule c b ws
       burst_rests w d =
           let y = resting ep in
           ap (answer_at (c.total + length b)) (d ∙ rw (y.0, y.1, y.2)) ∙ sym goes_on
 
-pub ruleset burst_laws = (rules, burst_refused, burst_fits)
+pub ruleset burst_laws = (rules, burst_refused, burst_note, burst_fits)

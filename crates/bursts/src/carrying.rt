@@ -1,7 +1,7 @@
 // What is carried: whether it is at fault, and where a run rests that carries it.
-ghost use Rattle.std.specs.Prelude.{◌≡◌, eqb};
-ghost use Rattle.table.specs.Run.{rests, noted_as};
-ghost use Rattle.table.specs.Inner.{rests_of};
+ghost use Rattle.std.specs.Prelude.{◌≡◌, true, eqb};
+ghost use Rattle.table.specs.Run.{rests};
+ghost use Rattle.table.specs.Inner.{rests_of, note_of};
 ghost use Rattle.bursts.specs.Bursts.{carried_note, carried_by, is_note, agrees, is_sound};
 
 use super::Carried;
@@ -36,25 +36,27 @@ pub(super) fn is_sound(c: Carried) -> bool
     agrees(c.stopped, c.state) && c.read <= c.total && is_note(c)
 }
 
-// Where a run rests that carries this.
+// Where a run rests that carries this: string 0 for no note.
+#[tactic(auto, unfolding(crate::specs::Bursts::is_note, search::specs::Inner::placed))]
 pub(super) fn progress_of(c: Carried) -> Progress
+    requires { is_note c.read (carried_note c) ≡ true }
     ensures { rests_of result ≡ rests c.state c.read (carried_note c) }
 {
     Progress {
         state: c.state,
         read: c.read,
-        last: c.noted.then_some(Note {
-            string: c.string,
+        last: Note {
+            string: if c.noted { c.string } else { 0 },
             pos1: c.pos1,
             pos2: c.pos2,
-        }),
+        },
     }
 }
 
 // What is carried on from there.
 #[tactic(auto, unfolding(crate::specs::Bursts::fresh))]
 pub(super) fn carried_of(at: Progress, total: usize) -> Carried
-    ensures { result ≡ carried_by at.state at.read total (noted_as at.last) (eqb at.state 0) }
+    ensures { result ≡ carried_by at.state at.read total (note_of at.last) (eqb at.state 0) }
 {
     let carried = Carried {
         state: at.state,
@@ -63,7 +65,7 @@ pub(super) fn carried_of(at: Progress, total: usize) -> Carried
         stopped: at.state == 0,
         ..Carried::fresh()
     };
-    match at.last {
+    match at.note() {
         Some(note) => Carried {
             noted: true,
             string: note.string,

@@ -21,9 +21,11 @@ use Rattle.strlib.specs.Pointer.{store_fits, good_in, text_of, characters, reada
 use Rattle.strlib.proofs.Texts.{character_at}
 use Rattle.strlib.specs.Refusal.{refused, gives, first, outcome}
 use Rattle.strlib.specs.declared.StrPtr.{StrPtr}
-use Rattle.search.specs.Search.{Result, nothing}
-use Rattle.table.specs.Run.{noted_as, size_of, is_sized, Walk, bad, rests, enter, step, walk, run_over, is_rest, ran_of, host_checks, before_checks, met_checks, run_refusal, run_rule}
-use Rattle.table.specs.Inner.{rests_of, Entered, before_run, ended}
+use Rattle.search.proofs.Placing.{placed_none}
+use Rattle.search.specs.Inner.{placed}
+use Rattle.search.specs.Search.{Result}
+use Rattle.table.specs.Run.{size_of, is_sized, Walk, bad, rests, enter, step, walk, run_over, is_rest, ran_of, host_checks, before_checks, met_checks, run_refusal, run_rule}
+use Rattle.table.specs.Inner.{note_of, rests_of, Entered, before_run, ended}
 use Rattle.table.specs.declared.Progress.{Progress}
 use Rattle.table.proofs.Walking.{walk_bad, walk_stop, RestsIn, in_enter, in_step, walk_turn, walk_end}
 
@@ -35,7 +37,7 @@ landed size m p w e h = rw (← e) at h
 module _ (ws : List ℕ) (size : ℕ) (h : List ℕ) (i : ℕ) (p : Progress) where
   module _ (all : Walk) (e : all ≡ walk ws size (drop i h) (rests_of p)) where
     pub walk_stopped : p.state ≡ 0 → rests_of p ≡ all
-    walk_stopped z = sym (e ∙ rw z (walk_stop ws size (drop i h) p.read (noted_as p.last)))
+    walk_stopped z = sym (e ∙ rw z (walk_stop ws size (drop i h) p.read (note_of p.last)))
 
     pub walk_over : length h ≤ i → rests_of p ≡ all
     walk_over l = sym (e ∙ walk_end ws size h i (rests_of p) l)
@@ -100,9 +102,9 @@ module _ (ws h : List ℕ) (size : ℕ) (e : size ≡ size_of ws) where
   pub start_entered : is_sized ws ≡ true → length h ≤ 65536 → Entered ws size 1 (0 + length h)
   start_entered y l = let z = sized_is ws y in record { state = omega (arith, z.low); long = omega (arith, z.long); near = omega arith }
 
-  pub start_over : (w : Walk) → w ≡ walk ws size h (enter ws 1 0 nothing) → w ≡ run_over ws h
+  pub start_over : (w : Walk) → w ≡ walk ws size h (enter ws 1 0 (placed 0 0 0)) → w ≡ run_over ws h
   unfolding run_over
-  start_over w x = x ∙ rw e
+  start_over w x = x ∙ rw (e, placed_none 0 0 0 refl)
 
 pub ruleset start_laws = (rules, start_entered, start_over)
 

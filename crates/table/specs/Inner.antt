@@ -2,13 +2,18 @@
 use Rattle.std.specs.Prelude.{ℕ, ◌+◌, ◌*◌, ◌≤◌, ◌<◌, List, length, Option, Some, None}
 use Rattle.strlib.specs.Refusal.{Outcome, refused, gives, first}
 use Rattle.strlib.specs.declared.StrPtr.{StrPtr}
+use Rattle.search.specs.Inner.{placed}
 use Rattle.search.specs.Search.{Result}
-use Rattle.table.specs.Run.{Walk, bad, rests, before_checks, noted_as}
+use Rattle.table.specs.Run.{Walk, bad, rests, before_checks}
+use Rattle.table.specs.declared.Note.{Note}
 use Rattle.table.specs.declared.Progress.{Progress}
 
--- the code's values in the rule's words
+-- the code's values in the rule's words: a note of string 0 is none
+abbrev pub note_of : Note → Result
+note_of m = placed m.string m.pos1 m.pos2
+
 abbrev pub rests_of : Progress → Walk
-rests_of p = rests p.state p.read (noted_as p.last)
+rests_of p = rests p.state p.read (note_of p.last)
 
 abbrev pub walked_of : Option Progress → Walk
 walked_of (Some p) = rests_of p

@@ -7,7 +7,7 @@ mod runs;
 ghost use Rattle.std.specs.Prelude.{◌≡◌, true, ◌+◌, ◌≤◌, length};
 ghost use Rattle.strlib.specs.Pointer.{characters};
 ghost use Rattle.table.specs.Run.{size_of, enter, step, walk, noted_as};
-ghost use Rattle.table.specs.Inner.{rests_of, walked_of, Entered};
+ghost use Rattle.table.specs.Inner.{note_of, rests_of, walked_of, Entered};
 
 pub use onward::resume;
 pub use runs::{Ran, run};
@@ -20,12 +20,26 @@ pub struct Note {
     pub pos2: usize,
 }
 
-// Where a run rests: the state that it has entered (0: it stopped), the number read, the last note.
+// Where a run rests: the state that it has entered (0: it stopped), the number read, the last note (string 0: none). An
+// enum for the note would be copied from step to step, its unused bytes too.
 #[derive(Clone, Copy)]
 pub struct Progress {
     pub state: usize,
     pub read: usize,
-    pub last: Option<Note>,
+    pub last: Note,
+}
+
+impl Progress {
+    #[tactic(auto, unfolding(search::specs::Inner::placed))]
+    pub fn note(self) -> Option<Note>
+        ensures { noted_as result ≡ note_of self.last }
+    {
+        if self.last.string == 0 {
+            None
+        } else {
+            Some(self.last)
+        }
+    }
 }
 
 // Words of a state: the next states by character, then the string's number, then the length.
@@ -52,10 +66,10 @@ fn size_of(table: &[u16]) -> usize
 }
 
 // The state is entered: its string, if it has one, is noted. None if its words are no table's.
-#[tactic(auto, unfolding(crate::specs::Run::enter))]
+#[tactic(auto, unfolding(crate::specs::Run::enter, search::specs::Inner::placed))]
 fn enter(table: &[u16], size: usize, at: Progress) -> Option<Progress>
     requires { Entered table.now size at.state at.read }
-    ensures { walked_of result ≡ enter table.now at.state at.read (noted_as at.last) }
+    ensures { walked_of result ≡ enter table.now at.state at.read (note_of at.last) }
 {
     let q = at.state;
     if q == 0 {
@@ -76,11 +90,11 @@ fn enter(table: &[u16], size: usize, at: Progress) -> Option<Progress>
     Some(Progress {
         state: q,
         read: n,
-        last: Some(Note {
+        last: Note {
             string: f,
             pos1: n - l + 1,
             pos2: n + 1,
-        }),
+        },
     })
 }
 
@@ -125,7 +139,7 @@ fn walk(text: &[u8], table: &[u16], size: usize, from: Progress) -> Option<Progr
 #[tactic(auto, using(crate::proofs::Running::on_laws))]
 fn read_on(text: &[u8], table: &[u16], size: usize, from: Progress) -> Option<Progress>
     requires { Entered table.now size from.state (from.read + length text.now) × (characters text.now ≡ true) }
-    ensures { walked_of result ≡ walk table.now size text.now (enter table.now from.state from.read (noted_as from.last)) }
+    ensures { walked_of result ≡ walk table.now size text.now (enter table.now from.state from.read (note_of from.last)) }
 {
     walk(text, table, size, enter(table, size, from)?)
 }

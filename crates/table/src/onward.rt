@@ -1,8 +1,7 @@
 // A run that goes on from where it rested, for the crates above: any words, any bytes, any place.
 ghost use Rattle.std.specs.Prelude.{◌≡◌};
 ghost use Rattle.table.specs.Resume.{can_resume, resumed};
-ghost use Rattle.table.specs.Run.{noted_as};
-ghost use Rattle.table.specs.Inner.{walked_of};
+ghost use Rattle.table.specs.Inner.{note_of, walked_of};
 
 use super::Progress;
 use strlib::StrPtr;
@@ -21,7 +20,7 @@ fn can_resume(text: &[u8], table: &[u16], state: usize, read: usize) -> bool
 // table's.
 #[tactic(auto, using(crate::proofs::Resuming::resume_laws))]
 pub fn resume(text: &[u8], table: &[u16], from: Progress) -> Option<Progress>
-    ensures { walked_of result ≡ resumed table.now text.now from.state from.read (noted_as from.last) }
+    ensures { walked_of result ≡ resumed table.now text.now from.state from.read (note_of from.last) }
 {
     if can_resume(text, table, from.state, from.read) {
         return super::read_on(text, table, super::size_of(table), from);

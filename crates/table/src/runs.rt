@@ -50,7 +50,11 @@ fn run_over(text: &[u8], table: &[u16]) -> Option<Progress>
         Progress {
             state: 1,
             read: 0,
-            last: None,
+            last: Note {
+                string: 0,
+                pos1: 0,
+                pos2: 0,
+            },
         },
     )
 }
@@ -63,7 +67,7 @@ pub fn run(store: &[u8], host: StrPtr, table: &[u16]) -> Result<Ran, Refusal>
     check_run(store, host, table)?;
     let at = run_over(strlib::text(store, host), table).ok_or(Refusal::Table)?;
     Ok(Ran {
-        note: at.last,
+        note: at.note(),
         read: at.read,
     })
 }

@@ -7,6 +7,9 @@ use Rattle.bursts.proofs.burst.Goals as goal
 pub returns-in_err-check_own : goal.returns-in_err-check_own
 returns-in_err-check_own c = search burst_laws
 
+pub progress_of-from-requires : goal.progress_of-from-requires
+progress_of-from-requires c = let z = c.in_ok-check_own.ensures in search burst_laws
+
 pub returns-in_err-at : goal.returns-in_err-at
 returns-in_err-at c =
     let k = c.in_err-at.ensures in

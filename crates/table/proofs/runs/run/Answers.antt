@@ -12,4 +12,5 @@ returns-in_err-at c =
 pub returns : goal.returns
 returns c =
     let k = c.in_ok-at.ensures in
+    rw c.note.ensures
     (run_given _ _ _ c.in_ok-check_run.ensures _ c.text.ensures (rests_of c.in_ok-at.at) (rw k.ok_part at c.run_over.ensures))

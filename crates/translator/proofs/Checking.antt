@@ -1,4 +1,5 @@
 -- Laws of the call: what was checked, and the table from the rows. Assumes nothing.
+use borrow.Author.Tests.{le-leb}
 use mathlib.Core.Path.{◌≡◌, refl, sym, ap, ◌∙◌}
 use mathlib.Core.Bool.{true}
 use mathlib.Core.List.{List, []}
@@ -17,7 +18,7 @@ use Rattle.strlib.specs.Refusal.{gives, refusal_number, answered}
 use Rattle.strlib.specs.declared.StrPtr.{StrPtr}
 use Rattle.search.specs.Search.{plain_search}
 use Rattle.search.specs.Search.{Result as Found}
-use Rattle.table.proofs.Running.{is_sized_lem, run_gave, run_plain}
+use Rattle.table.proofs.Running.{run_gave, run_plain}
 use Rattle.table.specs.Run.{size_of, is_sized, ran_of, run_rule}
 use Rattle.states.proofs.Levelling.{kept_none, kept_frame, kept_trans}
 use Rattle.states.proofs.Rowing.{rows_of}
@@ -76,7 +77,12 @@ ones ss few i h = get_or-replicate 32 i 1 0 (omega arith)
 -- words that hold the rows answer every host
 module _ (ss : List (List ℕ)) (ws : List ℕ) (holds : Represents ss ws) (few : length ss ≤ 32) (small : total ss ≤ 240) (plain : all characters ss ≡ true) where
   pub table_sized : is_sized ws ≡ true
-  table_sized = is_sized_lem ws (omega (arith, holds.size)) (omega (arith, holds.size)) (omega (arith, holds.size, holds.long))
+  unfolding is_sized
+  table_sized =
+      let a : 2 ≤ size_of ws = omega (arith, holds.size) in
+      let b : size_of ws ≤ 242 = omega (arith, holds.size) in
+      let c : 1 + 130 * size_of ws ≤ length ws = omega (arith, holds.size, holds.long) in
+      rw (le-leb 2 (size_of ws) a, le-leb (size_of ws) 242 b, le-leb (1 + 130 * size_of ws) (length ws) c)
 
   pub table_finds : (t : List ℕ) (host : StrPtr) → Host t host → note_in (run_rule t host ws) ≡ gives (plain_search ss (text_of t host))
   unfolding readable

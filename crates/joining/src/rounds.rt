@@ -59,6 +59,7 @@ pub fn join_from(
     ensures { (answered result, store.new) ≡ join_from_rule store.old destination list.now.items list.now.count from }
 {
     check_join_from(store, destination, list, from)?;
+    // the array itself: `strings()` does not promise to be as long as `count`
     let items: &[StrPtr] = &list.items;
     Ok(super::fill(
         store,

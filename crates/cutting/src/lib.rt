@@ -121,7 +121,6 @@ fn check_cut(store: &[u8], string: StrPtr, cut: Cut) -> Result<(), Refusal>
     strlib::check(bounds::in_bounds(string, cut), Refusal::Position)
 }
 
-#[tactic(auto, using(strlib::proofs::Answering::answer_laws, crate::proofs::Making::cut_ready), unfolding(crate::specs::Cutting::cut_rule, strlib::specs::Refusal::outcome))]
 fn cut_string(store: &[u8], string: StrPtr, cut: Cut) -> Result<StrPtr, Refusal>
     ensures { answered result ≡ cut_rule store.now string cut }
 {

@@ -7,6 +7,7 @@ ghost use Rattle.cutting.specs.declared.Cut.TheVariants.{Relative, Counted, Betw
 use super::{Cut, bounds};
 use strlib::StrPtr;
 
+#[tactic(auto, unfolding(strlib::specs::Pointer::text_of))]
 fn part(bytes: &[u8], p: StrPtr) -> &[u8]
     requires { p.start + p.length ≤ length bytes.now }
     ensures { IsPart result bytes.entry p }

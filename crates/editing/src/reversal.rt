@@ -14,7 +14,6 @@ fn check_reverse(store: &[u8], string: StrPtr) -> Result<(), Refusal>
     strlib::check_readable(store, string)
 }
 
-#[tactic(auto, using(strlib::proofs::Answering::answer_laws, crate::proofs::Reversing::reverse_done), unfolding(crate::specs::Reversing::reverse_rule, strlib::specs::Refusal::ruled, strlib::specs::Refusal::outcome, strlib::specs::Refusal::after))]
 pub fn reverse(store: &mut [u8], string: StrPtr) -> Result<StrPtr, Refusal>
     ensures { (answered result, store.new) ≡ reverse_rule store.old string }
 {
@@ -23,7 +22,6 @@ pub fn reverse(store: &mut [u8], string: StrPtr) -> Result<StrPtr, Refusal>
     Ok(string)
 }
 
-#[tactic(auto, using(strlib::proofs::Answering::answer_laws), unfolding(crate::specs::Reversing::reverse_from_refusal, strlib::specs::Checks::into_refusal))]
 fn check_reverse_from(store: &[u8], destination: StrPtr, source: StrPtr) -> Result<(), Refusal>
     ensures { number_found result ≡ reverse_from_refusal store.now destination source }
 {
@@ -33,7 +31,6 @@ fn check_reverse_from(store: &[u8], destination: StrPtr, source: StrPtr) -> Resu
 }
 
 // The destination then holds the source's characters from the last to the first.
-#[tactic(auto, using(strlib::proofs::Answering::answer_laws, crate::proofs::Reversing::reverse_from_done), unfolding(crate::specs::Reversing::reverse_from_rule, strlib::specs::Refusal::ruled, strlib::specs::Refusal::outcome, strlib::specs::Refusal::after))]
 pub fn reverse_from(
     store: &mut [u8],
     destination: StrPtr,

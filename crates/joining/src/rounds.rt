@@ -58,13 +58,7 @@ pub fn join_from(
 ) -> Result<Round, Refusal>
     ensures { (answered result, store.new) ≡ join_from_rule store.old destination list.items list.count from }
 {
-<<<<<<< HEAD
     check_join_from(store, destination, &list, from)?;
-=======
-    check_join_from(store, destination, list, from)?;
-    // the array itself: `strings()` does not promise to be as long as `count`
-    let items: &[StrPtr] = &list.items;
->>>>>>> 5491e198a8b5c23d4d5a80ceb9814e672d917897
     Ok(super::fill(
         store,
         destination,

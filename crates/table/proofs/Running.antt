@@ -13,7 +13,7 @@ use native.Mathlib.Omega.{arith}
 use lib.Dec.{leb}
 use lib.ListN.{length, get_or, drop}
 use borrow.Author.Rules.{rules}
-use borrow.Author.Tests.{leb-true, le-leb}
+use borrow.Author.Tests.{leb-true}
 use Rattle.strlib.proofs.Checking.{first_both}
 use Rattle.strlib.proofs.Pointing.{fits_is, good_is, text_length}
 use Rattle.strlib.proofs.Refusing.{and_both, first_before, first_behind, passed, outcome_no, outcome_gave}
@@ -74,10 +74,6 @@ sized_is ws e =
     let a = and_both (leb 2 (size_of ws)) _ e in
     let b = and_both (leb (size_of ws) 242) _ a.1 in
     record { low = leb-true _ _ a.0; high = leb-true _ _ b.0; long = leb-true _ _ b.1 }
-
-pub is_sized_lem : (ws : List ℕ) → 2 ≤ size_of ws → size_of ws ≤ 242 → 1 + 130 * size_of ws ≤ length ws → is_sized ws ≡ true
-unfolding is_sized
-is_sized_lem ws a b c = rw (le-leb 2 (size_of ws) a, le-leb (size_of ws) 242 b, le-leb (1 + 130 * size_of ws) (length ws) c)
 
 -- ---- enter, then walk
 

@@ -94,7 +94,7 @@ fn decide_tail(x: &[u8], y: &[u8], n: usize) -> Decision
 }
 
 // The pairs that both texts have, translated, up to the first unequal one; else the tail, in padded style, or the
-// lengths, in exact style.
+// lengths, in exact style. The style stays the number that was checked: an enum would only be tested once more.
 fn decide(x: &[u8], y: &[u8], style: usize, t: i64) -> Decision
     requires { (translates t ≡ true) × (characters x.now ≡ true) × (characters y.now ≡ true) }
     ensures { decision_of result ≡ decision x.now y.now style t }

@@ -28,16 +28,14 @@ fn are_equal(x: &[u8], y: &[u8], raised: u8) -> bool
     ensures { result ≡ eqb (unequal_from x.now y.now (sub_ℕ raised 128) 0 (length x.now)) (length x.now) }
 {
     let mut equal = true;
-    let mut i = 0;
-    while i < x.len() {
+    for i in 0..x.len() {
         equal = strlib::both(equal, is_equal(x[i], y[i], raised));
-        i += 1;
     }
     equal
 }
 
 // From the pair `from` on, blocks of this width, while so many of the n pairs are left, up to the first block that has
-// an unequal pair.
+// an unequal pair. Chunks of both texts, zipped and counted, would be no plainer: the count is multiplied out again.
 fn pass_blocks(x: &[u8], y: &[u8], raised: u8, n: usize, from: usize, width: usize) -> usize
     requires { Paired x.now y.now n × (from ≤ unequal_from x.now y.now (sub_ℕ raised 128) 0 n) × (0 < width) }
     ensures { (result ≤ unequal_from x.now y.now (sub_ℕ raised 128) 0 n) × (unequal_from x.now y.now (sub_ℕ raised 128) 0 n < result + width) }

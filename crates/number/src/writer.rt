@@ -17,7 +17,7 @@ fn magnitude(value: i64) -> usize
     value.unsigned_abs() as usize
 }
 
-// How many digits n has.
+// How many digits n has. The loop counts quotients, not places: an iterator over them would be no plainer.
 fn count_digits(n: usize, base: usize) -> usize
     requires { Countable base n }
     ensures { result ≡ length (digits base n) }

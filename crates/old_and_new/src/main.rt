@@ -10,7 +10,7 @@
 
 mod old;
 
-use saying::{say, say_number};
+use std::{fmt, io};
 
 // The bytes of a store here.
 const STORE: usize = 4096;
@@ -86,17 +86,12 @@ fn end_to_end(seen: Seen, n: usize) -> Seen {
     seen
 }
 
-fn say_seen(seen: Seen) {
-    if seen.alike {
-        say(b": alike,");
-    } else {
-        say(b": NOT ALIKE,");
+impl fmt::Display for Seen {
+    fn fmt<W: fmt::Write>(&self, f: &mut fmt::Formatter<W>) -> fmt::Result {
+        let alike = if self.alike { "alike" } else { "NOT ALIKE" };
+        let still = if self.still { " nothing written," } else { "" };
+        write!(f, "{alike},{still} {}", self.sum)
     }
-    if seen.still {
-        say(b" nothing written,");
-    }
-    say_number(seen.sum);
-    say(b"\n");
 }
 
 fn nothing_yet() -> Seen {
@@ -107,18 +102,16 @@ fn nothing_yet() -> Seen {
     }
 }
 
-fn of_length(n: usize) {
+fn of_length(rt: &impl Print, n: usize) -> io::Result<()> {
     let mut seen = end_to_end(nothing_yet(), n);
     for k in DISTANCES {
         seen = at_both(seen, n, k);
     }
-    say(b"length");
-    say_number(n);
-    say_seen(seen);
+    println!(rt; "length {n}: {seen}")
 }
 
 // Places outside the store: one byte too far, then so far that place and length wrap round.
-fn outside() {
+fn outside(rt: &impl Print) -> io::Result<()> {
     let most = usize::MAX;
     let seen = nothing_yet();
     let seen = trial(seen, STORE - 7, 0, 8);
@@ -134,13 +127,12 @@ fn outside() {
     let seen = trial(seen, most - 7, 0, 8);
     let seen = trial(seen, 0, most - 7, 8);
     let seen = trial(seen, most, most, most);
-    say(b"outside");
-    say_seen(seen);
+    println!(rt; "outside: {seen}")
 }
 
-fn main() {
+fn main(rt: HostRuntime) -> io::Result<()> {
     for n in LENGTHS {
-        of_length(n);
+        of_length(&rt, n)?;
     }
-    outside();
+    outside(&rt)
 }

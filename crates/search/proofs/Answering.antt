@@ -23,7 +23,7 @@ use Rattle.search.specs.declared.find.Spot.{Spot}
 use Rattle.search.proofs.Meaning.{search_law}
 use Rattle.std.specs.Result.{IsErrAnd}
 use Rattle.std.proofs.lemmas.Result.{err_from_is_err_and}
-use Rattle.strlib.proofs.Answering.{answer_laws, refusal_some}
+use Rattle.strlib.proofs.Answering.{refusal_some}
 
 module _ (s : List ℕ) (host : StrPtr) (l : List StrPtr) (c : ℕ) where
   -- the checks by their names, where all are passed
@@ -131,5 +131,3 @@ module _ (s : List ℕ) (host : StrPtr) (l : List StrPtr) (c : ℕ) (o : Option 
       go nothing (Some p) g = absurd (cc)
       go (found j pos1 pos2) None g = absurd (cc)
       go (found j pos1 pos2) (Some p) g = let h : spot j pos1 pos2 ≡ p = cc in rw (← h)
-
-pub ruleset search_laws = (answer_laws, sought_left, found_left, found_within, found_given)

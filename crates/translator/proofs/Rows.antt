@@ -4,7 +4,6 @@ use mathlib.Core.Bool.{true}
 use mathlib.Core.List.{List, [], ◌∷◌}
 use Prim.Native.Nat.{ℕ, zero, suc, ◌+◌, ◌*◌, ◌≤◌, ◌<◌}
 use native.Mathlib.Omega.{arith}
-use borrow.Author.Rules.{rules}
 use lib.ListN.{length, take, drop, get_or}
 use lib.Seq.{length-take-le}
 use Rattle.strlib.proofs.Listing.{all_take}
@@ -17,16 +16,11 @@ use Rattle.states.proofs.Levelling.{next_fail}
 use Rattle.states.proofs.Noting.{closed_count}
 use Rattle.states.proofs.Numbering.{reach_lt}
 use Rattle.states.proofs.Rowing.{row_of, default_of, default_root}
-use Rattle.states.proofs.Writing.{rowed_default, rowed_flat}
 use Rattle.states.specs.State.{total}
 use Rattle.states.specs.Fill.{limit, if_open, root_to, word_or_stop, Flat, Defaulted, Children, NotePut, Rowed, Stepped}
-use Rattle.translator.proofs.Common.{tells_first, tells_root, tells_take}
+use Rattle.translator.proofs.Common.{tells_first}
 use Rattle.translator.specs.Common.{TellsAll}
 use Rattle.translator.specs.Inner.{Ready, Open, Next, Turn}
-
-pub word_some : (ws : List ℕ) (q c r : ℕ) → (q ≡ 0 → ⊥) → r ≡ get_or ws (1 + 130 * q + c) 0 → r ≡ word_or_stop ws q c
-word_some ws zero c r z e = absurd (z refl)
-word_some ws (suc q) c r z e = e
 
 -- ---- the first strings of a list
 
@@ -123,13 +117,3 @@ module _ (s : List ℕ) (ps : List StrPtr) (ws : List ℕ) (r : Ready s (texts s
     finish_row n ws₁ ws₂ en k nt =
         let f : take (limit closing (length (texts s ps))) (texts s ps) ≡ texts s (take m ps) = rw (texts_long, ← e) first_m in
         row_of (texts s ps) ws ws₁ ws₂ q closing u o.closes o.default (rw f k) (rw en at nt)
-
-pub ruleset small_laws = (rules, word_some)
-
-pub ruleset finish_laws = (rules, finish_closing, finish_few, finish_plain, finish_small, finish_tells, finish_row)
-
-pub ruleset next_laws = (rules, next_from, next_ready, rowed_default)
-
-pub ruleset root_laws = (rules, root_ready, rowed_flat, tells_root)
-
-pub ruleset turn_laws = (rules, length-take-le, turn_short, turn_fail, turn_next, turn_done, tells_take)

@@ -29,8 +29,4 @@ module _ (ws : List ℕ) (base v n : ℕ) (u x : List ℕ) (t : Tells n u x) whe
   pub put_on : (d : ℕ) → length u ≤ n → length u < length x → d ≡ get_or x (length u) 0 → d < 128 → base + 128 ≤ length ws → Put ws (set ws (base + d) v) base v u x
   put_on d h = put_set ws base v u x d (t.begins ∙ le-leb (length u) n h)
 
-pub ruleset row_laws = (rules, flat_of, default_zero, default_copy)
-
 pub ruleset put_laws = (rules, put_short, put_apart, put_on)
-
-pub ruleset note_laws = (rules, noted_none, noted_other, noted_whole)

@@ -22,19 +22,19 @@ loop-k-preserved c =
 pub positions-preserved : goal.positions-preserved
 positions-preserved c = record {
   none = c.loop-k.invariant.none;
-  passed = passed_more _ _ _ c.positions.invariant.passed c.positions-test.true
+  passed = passed_more _ _ _ c.positions.invariant.passed (omega arith)
       (λ k h. c.loop-k.invariant.tried k (omega (arith, texts_long c.args.store.now (take c.args.list.now.count c.args.list.now.items), ap length c.strings-p-items.ensures)));
 }
 
 pub returns-then-starts_with : goal.returns-then-starts_with
 returns-then-starts_with c =
     find_hit _ _ _ _ _ (rw c.strings-p-items.ensures at c.loop-k-test.true) _ c.strings-p-items.ensures _ _ c.text-string.ensures _ c.starts_with.ensures.value _ c.positions.invariant.passed
-    c.positions-test.true c.if-starts_with.true c.loop-k.invariant.tried
+    (omega arith) c.if-starts_with.true c.loop-k.invariant.tried
 
 pub returns-2 : goal.returns-2
 returns-2 c =
     rw c.loop-k.invariant.none
     (passed_all _ _ _ _
-    (passed_more _ _ _ c.positions.invariant.passed c.positions-test.true
+    (passed_more _ _ _ c.positions.invariant.passed (omega arith)
     (λ k h. c.loop-k.invariant.tried k (omega (arith, texts_long c.args.store.now (take c.args.list.now.count c.args.list.now.items), ap length c.strings-p-items.ensures))))
     (omega arith))

@@ -1,21 +1,17 @@
 -- Laws of the strings of a list, and of counting their characters. Assumes nothing.
 use mathlib.Core.Path.{◌≡◌, refl, sym, ap, ◌∙◌}
-use mathlib.Core.List.{List, [], ◌∷◌}
+use mathlib.Core.List.{List}
 use Prim.Native.Nat.{ℕ, zero, suc, ◌+◌, ◌-◌, ◌≤◌, ◌<◌}
 use native.Mathlib.Omega.{arith}
 use mathlib.Core.Logic.{◌⊎◌, ⊎_elim}
 use Rattle.std.proofs.lemmas.List.{drop_all, drop_more, take_all}
-use borrow.Author.Rules.{rules}
 use borrow.Author.Tests.{le-leb, lt-leb}
-use native.Mathlib.Numerals.{add-one}
-use lib.ListN.{length, take, drop, get_or, length-take, length-drop, drop_of_length-le}
-use lib.Seq.{drop-cons, get_or-take, take-take}
-use Rattle.strlib.proofs.Texts.{texts_long, texts_take, listed_text}
+use lib.ListN.{length, take, drop, get_or, length-take, length-drop}
+use Rattle.strlib.proofs.Texts.{listed_text}
 use Rattle.strlib.specs.Pointer.{store_fits, text_of, texts}
 use Rattle.strlib.specs.declared.StrPtr.{StrPtr}
 use Rattle.search.specs.Search.{length_of}
-use Rattle.states.proofs.Numbering.{total_to_suc}
-use Rattle.states.specs.State.{total, total_to}
+use Rattle.states.specs.State.{total}
 use Rattle.preparing.specs.Listed.{listed, total_of}
 
 text_le : (s : List ℕ) (p : StrPtr) → length (text_of s p) ≤ length s

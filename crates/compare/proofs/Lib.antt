@@ -7,3 +7,4 @@ pub mod Walking
 pub mod Tailing
 pub mod Deciding
 pub mod Calling
+pub mod Table

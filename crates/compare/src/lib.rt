@@ -31,18 +31,24 @@ struct Decision {
     pub split: usize,
 }
 
-// Whether a code, 0 to 5, holds of an order.
+// For each code, whether it holds of less, of equal and of greater. 01 fixes this form.
+const MARKS: [[bool; 3]; 6] = [
+    [false, true, false],
+    [true, false, true],
+    [false, true, true],
+    [true, true, false],
+    [false, false, true],
+    [true, false, false],
+];
+
 fn mark(code: usize, order: Ordering) -> bool
     requires { code < 6 }
     ensures { result ≡ holds code (ordering_index order) }
 {
-    match code {
-        0 => order.is_eq(),
-        1 => order.is_ne(),
-        2 => order.is_ge(),
-        3 => order.is_le(),
-        4 => order.is_gt(),
-        _ => order.is_lt(),
+    match order {
+        Ordering::Less => MARKS[code][0],
+        Ordering::Equal => MARKS[code][1],
+        Ordering::Greater => MARKS[code][2],
     }
 }
 

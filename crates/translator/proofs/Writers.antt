@@ -1,9 +1,9 @@
--- Which laws each writer of words is proved by. Assumes nothing.
-use Rattle.std.proofs.Common.{ℕ, suc, ◌+◌, ◌-◌, ◌*◌, ◌≤◌, ◌<◌, ◌≡◌, refl, sym, ◌∙◌, Bool, true, false, ◌&&◌, List, [], ◌++◌, ◌∷◌, length, take, drop, get_or, set, leb, arith, rules}
+-- What a number tells of a listed string, and where a string goes on past a text. Assumes nothing.
+use Rattle.std.proofs.Common.{ℕ, ◌+◌, ◌≤◌, ◌<◌, ◌≡◌, ◌∙◌, true, false, ◌&&◌, List, [], length, get_or, set, leb, rules}
 use mathlib.Core.Bool.{and-false}
 use borrow.Author.Tests.{le-leb, lt-leb}
 use Rattle.search.specs.Search.{is_prefix}
-use Rattle.states.proofs.Writing.{flat_of, default_zero, default_copy, put_short, put_not, put_set, noted_none, noted_other, noted_whole}
+use Rattle.states.proofs.Writing.{put_short, put_not, put_set}
 use Rattle.states.specs.Fill.{Put}
 use Rattle.translator.specs.Common.{Tells, TellsAll}
 

@@ -53,7 +53,6 @@ ne_one Less e h = omega arith
 ne_one Equal e h = true≢false e
 ne_one Greater e h = omega arith
 
-
 -- ---- texts cut to the same length: a place tells, or none does
 
 pub data Walk (xs ys : List ℕ) (n : ℕ) (o : Ordering) : Type 0 where

@@ -129,7 +129,7 @@ fn decide(x: &[u8], y: &[u8], style: usize, t: i64) -> Decision
 }
 
 // Compares string 1 with string 2, translated for the extent of the shorter one, in a style, and says whether the code's
-// relation holds.
+// relation holds. Code and style are numbers, as 01 gives them: any is taken, and 3 refuses the others.
 pub fn compare(
     store: &[u8],
     string1: StrPtr,

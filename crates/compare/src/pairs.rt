@@ -1,4 +1,5 @@
-// Pairs that both texts have, many at a time, and the blanks of the longer one's tail.
+// Pairs that both texts have, many at a time, and the blanks of the longer one's tail. Two texts and a translation go
+// beside one another: a struct would be made and taken apart once for each of four functions.
 ghost use Rattle.std.specs.Prelude.{◌≡◌, true, [], ◌+◌, ◌-◌, ◌≤◌, ◌<◌, max, eqb, pos, ◌+ℤ◌, length};
 ghost use Rattle.std.proofs.Math.IntN.{sub_ℕ};
 ghost use Rattle.strlib.specs.Pointer.{characters};

@@ -26,6 +26,9 @@ pub enum Cut {
     Trimmed,
 }
 
+// The four calls are 01's, by name, and so are their read-only forms; one function makes each kind (`cut_string`,
+// `cut_slice`).
+
 // What is behind the first `offset` characters.
 pub fn relative(store: &[u8], string: StrPtr, offset: usize) -> Result<StrPtr, Refusal>
     ensures { answered result ≡ cut_rule store.now string (Relative offset) }

@@ -16,8 +16,9 @@ pub struct Cue {
     pub gain: i64,
 }
 
-// What a line is refused with, and with 11 a word: 0 for a line that is too long, else the first wrong or
-// missing fixed word or missing number, from 1, else 8 for an eighth word. With every other number the word is 0.
+// What a line is refused with, and with 11 a word: 0 for a line that is too long, else the first wrong or missing fixed
+// word or missing number, from 1, else 8 for an eighth word. With every other number the word is 0. It is a number as
+// `cue_word_rule` and C have it.
 #[derive(Clone, Copy)]
 pub struct CueFault {
     pub refusal: Refusal,

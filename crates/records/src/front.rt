@@ -22,7 +22,7 @@ pub fn kind_of(rest: &[u8]) -> usize
 fn two_bytes(high: u8, low: u8) -> usize
     ensures { result ≡ high * 256 + low }
 {
-    (high as usize) * 256 + (low as usize)
+    usize::from(u16::from_be_bytes([high, low]))
 }
 
 pub fn number_of(rest: &[u8]) -> usize

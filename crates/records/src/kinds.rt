@@ -16,7 +16,8 @@ pub const HEAD: usize = 3;
 // Characters of a name.
 pub const NAME: usize = 16;
 
-// The greatest number of a kind: 1, microphones, or 2, loudspeakers; 0 for what is no kind.
+// The greatest number of a kind: 1, microphones, or 2, loudspeakers; 0 for what is no kind. A kind stays a number: a
+// list's byte and a caller may give any, and 11 refuses the others.
 pub fn limit_of(kind: usize) -> usize
     ensures { result ≡ limit_of kind }
 {

@@ -37,6 +37,7 @@ pub fn write_record(buffer: &mut [u8], at: usize, kind: usize, number: usize, na
     let kind = kind % 256;
     let mut record = [b' '; SIZE];
     record[0] = kind as u8;
+    // the low 16 bits of any number: `to_be_bytes` would need the same remainder first
     record[1] = (number / 256 % 256) as u8;
     record[2] = (number % 256) as u8;
     let fitting = strlib::text(name, StrPtr::full(0, kinds::width_of(kind)));

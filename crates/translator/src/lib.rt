@@ -18,6 +18,9 @@ pub use levels::translate;
 use strlib::StrPtr;
 use table::{LENGTH_WORD, STATE_WORDS, STRING_WORD};
 
+// Store, strings and table go beside one another: the contracts speak of the texts, the words and the numbers of
+// likeness apart, and a struct of them would be taken apart in each.
+
 // ---- the strings
 
 // The number of the first listed string that u begins with, 0 for none. `alike` has the numbers of the string that u is

@@ -8,11 +8,11 @@ returns-in_err-check_compare c =
     compare_refused _ _ _ _ _ _ _ (to_z-of_z c.ranges.translation) _ _ c.from_residual.ensures.1 c.in_err-check_compare.ensures
 
 pub decide-d-requires : goal.decide-d-requires
-decide-d-requires c =
-    ( compare_translates _ _ _ _ _ _ _ refl c.in_ok-check_compare.ensures
-    , compare_characters_1 _ _ _ _ _ _ _ refl c.in_ok-check_compare.ensures _ c.text-x.ensures
-    , compare_characters_2 _ _ _ _ _ _ _ refl c.in_ok-check_compare.ensures _ c.text-y.ensures
-    )
+decide-d-requires c = (
+  compare_translates _ _ _ _ _ _ _ refl c.in_ok-check_compare.ensures,
+  compare_characters_1 _ _ _ _ _ _ _ refl c.in_ok-check_compare.ensures _ c.text-x.ensures,
+  compare_characters_2 _ _ _ _ _ _ _ refl c.in_ok-check_compare.ensures _ c.text-y.ensures,
+)
 
 pub mark-requires : goal.mark-requires
 mark-requires c = compare_code _ _ _ _ _ _ _ refl c.in_ok-check_compare.ensures

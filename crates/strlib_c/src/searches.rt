@@ -21,11 +21,7 @@ pub extern "C" fn strlib_search_match_after(store: &[u8], host: StrPtr, list: St
 }
 
 #[unsafe(no_mangle)]
-pub extern "C" fn strlib_search_before_match(
-    store: &[u8],
-    host: StrPtr,
-    list: StrList,
-) -> FlatSplit
+pub extern "C" fn strlib_search_before_match(store: &[u8], host: StrPtr, list: StrList) -> FlatSplit
     ensures { result ≡ flat_split (before_match_rule store.now host list.items list.count) }
 {
     FlatSplit::from(search::search_before_match(store, host, list))

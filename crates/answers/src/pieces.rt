@@ -1,4 +1,5 @@
-// Answers, line by line, however the input is cut into pieces.
+// Answers, line by line, however the input is cut into pieces. What is held, the room for answers and the state are lent
+// apart, as `fed_by` has them: a struct would be taken apart in each contract.
 ghost use Rattle.std.specs.Prelude.{◌≡◌, take};
 ghost use Rattle.buffer.specs.Buffer.{grown};
 ghost use Rattle.answers.specs.Pieces.{end_text, fed_by};

@@ -16,8 +16,8 @@ index_of most (pos n) = cond (leb n most) n 0
 index_of most (negsuc n) = 0
 
 -- a refusal that comes without a word
-abbrev pub wordless : Refusal → CueFault
-wordless refusal = record { refusal = refusal; word = 0 }
+abbrev pub without_word : Refusal → CueFault
+without_word refusal = record { refusal = refusal; word = 0 }
 
 -- the number and the word that checks found, 0 where all hold
 abbrev pub fault_found : {A : Type 0} → Result A CueFault → ℕ × ℕ

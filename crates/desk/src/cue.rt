@@ -4,7 +4,7 @@ ghost use Rattle.strlib.specs.Pointer.{text_of};
 ghost use Rattle.strlib.specs.Refusal.{number_found, answered};
 ghost use Rattle.words.specs.Words.{same, first_words};
 ghost use Rattle.desk.specs.Cue.{is_size, is_gain, wrong_word, cue_answered, word_of, cue_word_rule};
-ghost use Rattle.desk.specs.CueInner.{wordless, fault_found, formless, index_of, in_matrix, line_refusal};
+ghost use Rattle.desk.specs.CueInner.{without_word, fault_found, formless, index_of, in_matrix, line_refusal};
 
 use strlib::{Refusal, StrPtr};
 
@@ -27,7 +27,7 @@ pub struct CueFault {
 
 // Every refusal but a wrong word's.
 impl From<Refusal> for CueFault {
-    ghost from_gives = { λ refusal fault. fault ≡ wordless refusal };
+    ghost from_gives = { λ refusal fault. fault ≡ without_word refusal };
 
     fn from(refusal: Refusal) -> CueFault {
         CueFault { refusal, word: 0 }

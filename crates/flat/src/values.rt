@@ -122,7 +122,7 @@ impl From<Result<usize, Fault>> for FlatSize {
     }
 }
 
-// The refusal's number of a call that answers nothing else, 0 for none.
+// The refusal's number of a call that answers nothing else, 0 for none. No `From`: both types are of other crates.
 pub fn refusal_number(a: Result<(), Refusal>) -> u8
     ensures { result ≡ flat_done (answered a) }
 {

@@ -229,7 +229,7 @@ impl From<Result<Option<LabelPlace>, Fault>> for FlatName {
     }
 }
 
-// A found name as a part: the empty one at the front on a refusal or no record.
+// A found name as a part: the empty one at the front on a refusal or no record. No `From`: this answer has another.
 #[tactic(auto, unfolding(desk::specs::Label::name_part))]
 pub fn name_part(a: Result<Option<LabelPlace>, Fault>) -> FlatPart
     ensures { result ≡ flat_part (name_part (label_placed a)) }

@@ -13,7 +13,7 @@ pub struct FlatBurst {
     pub carried: Carried,
 }
 
-// On a refusal what was given goes back, so that a caller may take the answer's in either case.
+// On a refusal what was given goes back, so that a caller may take the answer's in either case; so it is no `From`.
 pub fn burst(given: Carried, a: Result<Carried, Refusal>) -> FlatBurst
     ensures { result ≡ flat_burst given (answered a) }
 {

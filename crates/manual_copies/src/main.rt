@@ -9,8 +9,13 @@ use std::io;
 
 mod copies;
 
-fn main(rt: HostRuntime) -> io::Result<()> {
-    copies::section_3_0(&rt)?;
-    copies::section_3_2(&rt)?;
-    copies::section_5_2(&rt)
+fn sections(rt: &impl Print) -> io::Result<()> {
+    copies::section_3_0(rt)?;
+    copies::section_3_2(rt)?;
+    copies::section_5_2(rt)
+}
+
+// What cannot be printed is left out; nobody is there to be told.
+fn main(rt: HostRuntime) {
+    let _ = sections(&rt);
 }

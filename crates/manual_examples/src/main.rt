@@ -17,9 +17,14 @@ mod comparing;
 mod replacing;
 mod substrings;
 
-fn main(rt: HostRuntime) -> io::Result<()> {
-    comparing::section_3_1(&rt)?;
-    substrings::section_3_3(&rt)?;
-    replacing::section_3_5(&rt)?;
-    comparing::section_5_1(&rt)
+fn sections(rt: &impl Print) -> io::Result<()> {
+    comparing::section_3_1(rt)?;
+    substrings::section_3_3(rt)?;
+    replacing::section_3_5(rt)?;
+    comparing::section_5_1(rt)
+}
+
+// What cannot be printed is left out; nobody is there to be told.
+fn main(rt: HostRuntime) {
+    let _ = sections(&rt);
 }

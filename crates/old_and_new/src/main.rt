@@ -130,9 +130,14 @@ fn outside(rt: &impl Print) -> io::Result<()> {
     println!(rt; "outside: {seen}")
 }
 
-fn main(rt: HostRuntime) -> io::Result<()> {
+fn moves(rt: &impl Print) -> io::Result<()> {
     for n in LENGTHS {
-        of_length(&rt, n)?;
+        of_length(rt, n)?;
     }
-    outside(&rt)
+    outside(rt)
+}
+
+// What cannot be printed is left out; nobody is there to be told.
+fn main(rt: HostRuntime) {
+    let _ = moves(&rt);
 }

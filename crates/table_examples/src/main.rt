@@ -112,8 +112,7 @@ fn show(rt: &impl Print, name: &str, store: &[u8], n: usize, sizes: &[usize]) ->
     }
 }
 
-fn main(rt: HostRuntime) -> io::Result<()> {
-    let rt = &rt;
+fn examples(rt: &impl Print) -> io::Result<()> {
     show(rt, "A", b"0123456789567893423", 10, &[5, 2, 2])?;
     show(rt, "B", b"01234567893434567", 10, &[2, 5])?;
     show(rt, "C", b"01234567893456734", 10, &[5, 2])?;
@@ -135,4 +134,9 @@ fn main(rt: HostRuntime) -> io::Result<()> {
     show(rt, "byte 128", b"0123456789\x80", 10, &[1])?;
     let characters = b"a\x7F\x00\x7F\x00\x00\x7F";
     show(rt, "characters 0 and 127", characters, 4, &[2, 1])
+}
+
+// What cannot be printed is left out; nobody is there to be told.
+fn main(rt: HostRuntime) {
+    let _ = examples(&rt);
 }

@@ -18,11 +18,6 @@ use Rattle.charset.specs.Inner.{Ready}
 use Rattle.charset.specs.Rule.{block_checks, block_refusal, set_checks, set_refusal}
 use Rattle.charset.specs.Sets.{block_fits, mask_fits}
 
--- where a `?` leaves a search, its refusal goes out as it came
-module _ {A : Type 0} (r : Result (Option A) Refusal) (e : Refusal) (p : IsErrAnd r (λ x. x ≡ e)) (k : ℕ) (h : refusal_number e ≡ k) where
-  pub sought_left : (x : Sought A) → sought_answered r ≡ outcome k x
-  sought_left x = let q = err_from_is_err_and r p in let f : r ≡ Err e = rw (← q.2) q.1 in rw f (outcome_no (refusal_number e) k h x (refusal_some e))
-
 -- ---- a block and a mask
 
 module _ (block : List ℕ) (mask : ℕ) where

@@ -32,6 +32,7 @@ pub fn find_last(
     Ok(last(strlib::text(store, host), block, mask))
 }
 
+#[tactic(auto, unfolding(crate::specs::Sets::in_tables))]
 fn in_tables(block: &[u64], mask: u64, x: u8) -> bool
     requires { x < length block.now }
     ensures { result ≡ in_tables block.now mask x }

@@ -27,6 +27,7 @@ fn gap_of(pad: bool, old: usize, n: usize) -> usize
 }
 
 // Writes g blanks from behind the first n bytes of a room on, where these lie in the store.
+#[tactic(auto, using(crate::proofs::Padding::pad_laws))]
 fn pad_behind(store: &mut [u8], start: usize, n: usize, g: usize)
     ensures { store.new ≡ blanked store.old (start + n) g }
 {
@@ -37,6 +38,7 @@ fn pad_behind(store: &mut [u8], start: usize, n: usize, g: usize)
 
 // Ends a bounded copy that wrote n characters at the front of the destination's room: pads them, and gives the answer.
 // It takes any numbers; blanks that would lie outside the store are not written.
+#[tactic(auto, using(crate::proofs::Padding::pad_laws))]
 pub fn finish(store: &mut [u8], destination: StrPtr, n: usize, pad: bool, completed: bool) -> Wrote
     ensures { (result, store.new) ≡ finished store.old destination n pad completed }
 {

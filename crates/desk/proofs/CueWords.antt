@@ -13,7 +13,7 @@ use lib.ListN.{length, get_or, set, take, length-set}
 use lib.Seq.{take_all, take-suc-set}
 use Rattle.std.proofs.Common.{Result, Ok, Err}
 use Rattle.std.specs.Result.{IsErrAnd}
-use Rattle.strlib.proofs.Answering.{refusal_some}
+use Rattle.strlib.proofs.Answering.{err_is, refusal_some}
 use Rattle.strlib.proofs.Pointing.{text_length}
 use Rattle.strlib.specs.Pointer.{pointer, text_of}
 use Rattle.strlib.specs.Quoted.{bytes}
@@ -22,7 +22,6 @@ use Rattle.strlib.specs.declared.StrPtr.{StrPtr}
 use Rattle.words.proofs.Wording.{first_words_none, first_words_more, word_no, word_some, words_good}
 use Rattle.words.specs.Words.{words, same, pointer_of, next_word, first_words}
 use Rattle.words.specs.declared.Piece.{Piece}
-use Rattle.desk.proofs.Refused.{err_is}
 use Rattle.desk.specs.CueInner.{fault_found, formless}
 use Rattle.desk.specs.declared.cue.CueFault.{CueFault}
 

@@ -9,10 +9,6 @@ use Rattle.strlib.specs.Refusal.{refusal_number, number_found}
 use Rattle.strlib.specs.declared.refusal.Refusal.{Refusal}
 use Rattle.records.specs.declared.Fault.{Fault}
 
--- where a `?` leaves a function
-pub err_is : {A E : Type 0} (r : Result A E) (f : E) → IsErrAnd r (λ x. x ≡ f) → r ≡ Err f
-err_is r f p = let q = err_from_is_err_and r p in rw (← q.2) q.1
-
 -- a refusal that an offset is put to
 module _ {A : Type 0} (self : Result A Refusal) (r : Result A Fault) (p : ℕ) {Post : Refusal → Fault → Type 0} (cases : MatchResult self (λ x. r ≡ Ok x) (λ e. IsErrAnd r (Post e)))
     (made : (e : Refusal) (f : Fault) → Post e f → f ≡ record { refusal = e; offset = p }) where

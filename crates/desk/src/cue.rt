@@ -69,6 +69,7 @@ fn first_words(line: &[u8]) -> CueWords
     list
 }
 
+#[tactic(auto, using(crate::proofs::CueWords::word_laws))]
 fn is_word(line: &[u8], word: StrPtr, fixed: &[u8]) -> bool
     ensures { result ≡ same (text_of line.now word) fixed.now }
 {
@@ -103,6 +104,7 @@ fn check_words(line: &[u8], list: &CueWords) -> Result<(), CueFault>
     check_word(list[7].length == 0, 8)
 }
 
+#[tactic(auto, using(crate::proofs::CueReading::line_laws))]
 fn is_size(size: usize, most: usize) -> bool
     ensures { result ≡ is_size most size }
 {
@@ -134,6 +136,7 @@ fn index_of(value: i64, most: usize) -> usize
     0
 }
 
+#[tactic(auto, using(crate::proofs::CueNumbers::gain_laws))]
 fn is_gain(value: i64) -> bool
     ensures { result ≡ is_gain value }
 {

@@ -17,7 +17,7 @@ use Rattle.number.specs.Text.{is_number, number_of}
 use Rattle.number.specs.Written.{written}
 use Rattle.number.specs.Number.{before_text, of_text, read_refusal, read_rule, before_digits, of_room, write_checks, write_refusal, write_rule}
 use Rattle.number.specs.Inner.{unreadable, reads, unwritable, TextRoom}
-use Rattle.number.proofs.Ranging.{cond_passed}
+use Rattle.strlib.proofs.Answering.{cond_passed}
 
 -- ---- reading
 

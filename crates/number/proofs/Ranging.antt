@@ -16,11 +16,6 @@ use Rattle.strlib.proofs.Refusing.{and_both}
 use Rattle.number.specs.Limits.{is_base, in_range}
 use Rattle.number.specs.Text.{signed}
 
--- a check that was passed
-pub cond_passed : (b : Bool) (n : ℕ) → 0 ≡ cond b 0 (suc n) → b ≡ true
-cond_passed true n e = refl
-cond_passed false n e = absurd (omega (arith, e))
-
 pub base_is : (base : ℕ) → is_base base ≡ true → (2 ≤ base) × (base ≤ 10)
 unfolding is_base
 base_is base e = let b = and_both (leb 2 base) (leb base 10) e in (leb-true 2 base b.0, leb-true base 10 b.1)

@@ -22,7 +22,8 @@ use Rattle.strlib.specs.declared.refusal.Refusal.{Refusal}
 use Rattle.words.proofs.Ending.{rest_is, blanks_front}
 use Rattle.words.proofs.Wording.{blanks_le}
 use Rattle.words.specs.Ends.{blank_count, blanks_end}
-use Rattle.number.proofs.Ranging.{base_is, cond_passed}
+use Rattle.number.proofs.Ranging.{base_is}
+use Rattle.strlib.proofs.Answering.{cond_passed}
 use Rattle.number.proofs.Holding.{held_reads}
 use Rattle.number.specs.Limits.{is_base, in_range}
 use Rattle.number.specs.Text.{unblanked, minus, unsigned, is_digit, are_digits, is_number, value, signed, number_of}

@@ -4,6 +4,7 @@ ghost use Rattle.number.specs.Limits.{is_base, in_range};
 
 use strlib::StrPtr;
 
+#[tactic(auto, unfolding(crate::specs::Limits::is_base))]
 pub fn is_base(base: usize) -> bool
     ensures { result ≡ is_base base }
 {

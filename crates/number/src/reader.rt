@@ -13,6 +13,7 @@ use strlib::{Refusal, StrPtr};
 const HELD: usize = 68719476736;
 
 // What stands behind the blanks in front.
+#[tactic(auto, using(crate::proofs::Reading::blank_laws))]
 fn unblanked(text: &[u8]) -> &[u8]
     ensures { result.now ≡ unblanked text.now }
 {

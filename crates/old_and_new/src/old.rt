@@ -28,6 +28,7 @@ fn move_up(store: &mut [u8], from: usize, to: usize, n: usize)
     }
 }
 
+#[tactic(auto, using(crate::proofs::Single::single_laws))]
 pub(crate) fn move_characters(store: &mut [u8], from: usize, to: usize, n: usize)
     ensures { store.new ≡ moved store.old from to n }
 {

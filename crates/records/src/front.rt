@@ -12,6 +12,7 @@ fn byte_at(bytes: &[u8], i: usize) -> u8
     bytes.get(i).copied().unwrap_or(0)
 }
 
+#[tactic(auto, using(crate::proofs::Checking::front_laws))]
 pub fn kind_of(rest: &[u8]) -> usize
     ensures { result ≡ kind_of rest.now }
 {
@@ -25,12 +26,14 @@ fn two_bytes(high: u8, low: u8) -> usize
     usize::from(u16::from_be_bytes([high, low]))
 }
 
+#[tactic(auto, using(crate::proofs::Checking::front_laws))]
 pub fn number_of(rest: &[u8]) -> usize
     ensures { result ≡ number_in rest.now }
 {
     two_bytes(byte_at(rest, 1), byte_at(rest, 2))
 }
 
+#[tactic(auto, using(crate::proofs::Checking::front_laws))]
 pub fn name_in(rest: &[u8]) -> &[u8]
     ensures { result.now ≡ name_in rest.now }
 {
@@ -38,6 +41,7 @@ pub fn name_in(rest: &[u8]) -> &[u8]
     strlib::text(rest, StrPtr::full(kinds::HEAD, width))
 }
 
+#[tactic(auto, using(crate::proofs::Checking::front_laws))]
 pub fn is_record(rest: &[u8], kind: usize, number: usize) -> bool
     ensures { result ≡ is_record rest.now kind number }
 {

@@ -29,18 +29,21 @@ pub fn limit_of(kind: usize) -> usize
 }
 
 // Characters of a name, and bytes of a record.
+#[tactic(auto, using(crate::proofs::Limits::limit_laws))]
 pub fn width_of(kind: usize) -> usize
     ensures { result ≡ width_of kind }
 {
     NAME
 }
 
+#[tactic(auto, using(crate::proofs::Limits::limit_laws))]
 pub fn size_of(kind: usize) -> usize
     ensures { result ≡ record_size kind }
 {
     HEAD + width_of(kind)
 }
 
+#[tactic(auto, using(crate::proofs::Limits::limit_laws))]
 pub fn is_number_of(kind: usize, number: usize) -> bool
     ensures { result ≡ is_number_of kind number }
 {

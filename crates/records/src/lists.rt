@@ -5,6 +5,7 @@ ghost use Rattle.records.specs.Record.{record_at, records, record_of};
 use super::{front, kinds};
 
 // How many records begin in a list.
+#[tactic(auto, using(crate::proofs::Seeking::list_laws))]
 fn count(list: &[u8]) -> usize
     ensures { result ≡ records list.now }
 {
@@ -13,6 +14,7 @@ fn count(list: &[u8]) -> usize
 }
 
 // What is behind the first `at` bytes.
+#[tactic(auto, using(crate::proofs::Seeking::list_laws))]
 pub fn rest_of(list: &[u8], at: usize) -> &[u8]
     ensures { result.now ≡ drop at list.now }
 {
@@ -23,6 +25,7 @@ pub fn rest_of(list: &[u8], at: usize) -> &[u8]
 }
 
 // Record k, counted from 0, with all that is behind it.
+#[tactic(auto, using(crate::proofs::Seeking::list_laws))]
 pub fn record_at(list: &[u8], k: usize) -> &[u8]
     ensures { result.now ≡ record_at list.now k }
 {

@@ -23,7 +23,7 @@ use Rattle.search.specs.declared.find.Spot.{Spot}
 use Rattle.search.proofs.Meaning.{search_law}
 use Rattle.std.specs.Result.{IsErrAnd}
 use Rattle.std.proofs.lemmas.Result.{err_from_is_err_and}
-use Rattle.strlib.proofs.Answering.{refusal_some}
+use Rattle.strlib.proofs.Answering.{err_is}
 
 module _ (s : List ℕ) (host : StrPtr) (l : List StrPtr) (c : ℕ) where
   -- the checks by their names, where all are passed
@@ -98,10 +98,7 @@ module _ (s : List ℕ) (host : StrPtr) (l : List StrPtr) (c : ℕ) where
 -- a refusal goes out as it came
 module _ {A : Type 0} (r : Result (Option A) Refusal) (e : Refusal) (p : IsErrAnd r (λ x. x ≡ e)) where
   left : sought_answered r ≡ refused (refusal_number e)
-  left = let q = err_from_is_err_and r p in let h : r ≡ Err e = rw (← q.2) q.1 in rw h
-
-  pub sought_left : (k : ℕ) (x : Sought A) → refusal_number e ≡ k → sought_answered r ≡ outcome k x
-  sought_left k x h = left ∙ outcome_no (refusal_number e) k h x (refusal_some e)
+  left = rw (err_is r e p)
 
   pub found_left : (f : ℕ → ℕ → ℕ → A) (s : List ℕ) (host : StrPtr) (l : List StrPtr) (c : ℕ) → refused (refusal_number e) ≡ search_by spot s host l c
       → sought_answered r ≡ search_by f s host l c

@@ -1,6 +1,6 @@
 -- Laws of the code's refusals: what a `?` that leaves a function answers, and what is known behind one that does not.
 -- Assumes nothing.
-use Rattle.std.proofs.Common.{ℕ, zero, suc, ◌≡◌, refl, sym, ap, ◌∙◌, cond, Bool, true, false, List, [], ◌∷◌, ◌++◌, Result, Ok, Err, arith, rules, ltb}
+use Rattle.std.proofs.Common.{ℕ, zero, suc, ◌≡◌, refl, sym, ap, ◌∙◌, cond, Bool, true, false, List, [], ◌∷◌, ◌++◌, Option, Result, Ok, Err, arith, rules, ltb}
 use Rattle.std.specs.Result.{IsErrAnd}
 use Rattle.std.proofs.lemmas.Result.{err_from_is_err_and}
 use Rattle.strlib.specs.Refusal.{Outcome, Sought, refused, gives, first, outcome, after, ruled, refusal_number, number_found, answered, sought_answered}
@@ -10,7 +10,15 @@ use Rattle.strlib.proofs.Refusing.{numbered, first_before, first_behind, outcome
 pub refusal_some : (e : Refusal) → refusal_number e ≡ 0 → ⊥
 refusal_some e h = grind arith
 
+-- an error goes out as it came
+pub err_is : {A E : Type 0} (r : Result A E) (e : E) → IsErrAnd r (λ x. x ≡ e) → r ≡ Err e
+err_is r e p = let q = err_from_is_err_and r p in rw (← q.2) q.1
+
 -- ---- one check, and those behind it
+
+pub cond_passed : (b : Bool) (n : ℕ) → 0 ≡ cond b 0 (suc n) → b ≡ true
+cond_passed true n e = refl
+cond_passed false n e = absurd (omega (arith, e))
 
 pub here : (e : Refusal) (b : Bool) (n k : ℕ) → refusal_number e ≡ cond b 0 n → refusal_number e ≡ cond b k n
 here e true n k h = absurd (refusal_some e h)
@@ -32,7 +40,7 @@ next_all cs ds n x h e = e ∙ sym (first_behind cs ds n (sym h))
 
 module _ {A : Type 0} (r : Result A Refusal) (e : Refusal) (p : IsErrAnd r (λ x. x ≡ e)) (k : ℕ) (h : refusal_number e ≡ k) where
   left : r ≡ Err e
-  left = let q = err_from_is_err_and r p in rw (← q.2) q.1
+  left = err_is r e p
 
   pub stop : number_found r ≡ k
   stop = rw left h
@@ -43,6 +51,10 @@ module _ {A : Type 0} (r : Result A Refusal) (e : Refusal) (p : IsErrAnd r (λ x
   pub ruled_left : (x : A) (new old : List ℕ) → (answered r, old) ≡ ruled k x new old
   ruled_left x new old = rw left (ruled_no (refusal_number e) k h x new old (refusal_some e))
 
+module _ {A : Type 0} (r : Result (Option A) Refusal) (e : Refusal) (p : IsErrAnd r (λ x. x ≡ e)) (k : ℕ) (h : refusal_number e ≡ k) where
+  pub sought_left : (x : Sought A) → sought_answered r ≡ outcome k x
+  sought_left x = rw (err_is r e p) (outcome_no (refusal_number e) k h x (refusal_some e))
+
 -- ---- where it does not
 
 module _ {A : Type 0} (k : ℕ) (x y : A) (h : 0 ≡ k) (e : x ≡ y) where
@@ -52,4 +64,4 @@ module _ {A : Type 0} (k : ℕ) (x y : A) (h : 0 ≡ k) (e : x ≡ y) where
   pub ruled_right : (t new old : List ℕ) → t ≡ new → (gives x, t) ≡ ruled k y new old
   ruled_right t new old p = ruled_yes 0 k h x y t new old refl e p
 
-pub ruleset answer_laws = (rules, stop, here, next, here_all, next_all, outcome_left, ruled_left, outcome_right, ruled_right)
+pub ruleset answer_laws = (rules, stop, here, next, here_all, next_all, outcome_left, ruled_left, sought_left, outcome_right, ruled_right)

@@ -21,6 +21,7 @@ pub fn check(ok: bool, refusal: Refusal) -> Result<(), Refusal>
 }
 
 // The first check of a call: a store is at most 65,536 bytes.
+#[tactic(auto, unfolding(crate::specs::Pointer::store_fits))]
 pub fn check_store(store: &[u8]) -> Result<(), Refusal>
     ensures { number_found result ≡ cond (store_fits store.now) 0 3 }
 {
@@ -39,6 +40,7 @@ pub fn check_characters(bytes: &[u8]) -> Result<(), Refusal>
     check(strings::are_characters(bytes), Refusal::Character)
 }
 
+#[tactic(auto, unfolding(crate::specs::Pointer::readable))]
 pub fn check_readable(store: &[u8], p: StrPtr) -> Result<(), Refusal>
     ensures { number_found result ≡ cond (readable store.now p) 0 2 }
 {
@@ -46,6 +48,7 @@ pub fn check_readable(store: &[u8], p: StrPtr) -> Result<(), Refusal>
 }
 
 // The first checks of a call that writes a source's characters into a destination's room.
+#[tactic(auto, using(crate::proofs::Answering::answer_laws), unfolding(crate::specs::Checks::into_refusal))]
 pub fn check_into(store: &[u8], destination: StrPtr, source: StrPtr) -> Result<(), Refusal>
     ensures { number_found result ≡ into_refusal store.now destination source }
 {

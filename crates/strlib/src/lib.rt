@@ -70,6 +70,7 @@ impl StrPtr {
     pub const NUMBER_MAX: i64 = 34359738367;
 
     // A pointer stores what it is given; whether it is good depends on the store of a call.
+    #[tactic(auto, unfolding(crate::specs::Pointer::pointer))]
     pub fn new(start: usize, n: usize, maximum: usize) -> Self
         ensures { result ≡ pointer start n maximum }
     {
@@ -88,6 +89,7 @@ impl StrPtr {
     }
 
     // The same room with another length.
+    #[tactic(auto, unfolding(crate::specs::Pointer::pointer, crate::specs::Pointer::sized))]
     pub fn sized(self, n: usize) -> Self
         ensures { result ≡ sized self n }
     {
@@ -95,6 +97,7 @@ impl StrPtr {
     }
 
     // A part of the string, at a place of its own.
+    #[tactic(auto, unfolding(crate::specs::Pointer::pointer))]
     pub fn part(self, start: usize, n: usize, maximum: usize) -> Self
         ensures { result ≡ part_at self start n maximum }
     {
@@ -102,6 +105,7 @@ impl StrPtr {
     }
 
     // Whether the pointer is good for a store of n bytes.
+    #[tactic(auto, using(crate::proofs::Pointing::good_laws))]
     pub fn is_good(self, n: usize) -> bool
         ensures { result ≡ good_in n self }
     {

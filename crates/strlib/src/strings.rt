@@ -6,6 +6,7 @@ use super::StrPtr;
 
 // Whether each byte is a character, 0 to 127. The greatest byte tells; a loop that never leaves early is compiled to
 // take many bytes at a time.
+#[tactic(auto, using(crate::proofs::Pointing::text_laws))]
 pub fn are_characters(bytes: &[u8]) -> bool
     ensures { result ≡ characters bytes.now }
 {
@@ -17,6 +18,7 @@ pub fn are_characters(bytes: &[u8]) -> bool
 }
 
 // The characters of a string; of a pointer that is not good, what of them lies in the store.
+#[tactic(auto, using(crate::proofs::Pointing::text_laws))]
 pub fn text(store: &[u8], p: StrPtr) -> &[u8]
     ensures { result.now ≡ text_of store.now p }
 {
@@ -33,6 +35,7 @@ pub fn text(store: &[u8], p: StrPtr) -> &[u8]
     &store[a..e]
 }
 
+#[tactic(auto, using(crate::proofs::Pointing::readable_laws))]
 pub fn is_readable(store: &[u8], p: StrPtr) -> bool
     ensures { result ≡ readable store.now p }
 {
@@ -50,6 +53,7 @@ pub fn is_within(size: usize, at: usize, n: usize) -> bool
 }
 
 // Whether m bytes from a and n bytes from b share none.
+#[tactic(auto, using(crate::proofs::Pointing::apart_laws))]
 fn is_apart(a: usize, m: usize, b: usize, n: usize) -> bool
     ensures { result ≡ apart a m b n }
 {
@@ -66,6 +70,7 @@ fn is_apart(a: usize, m: usize, b: usize, n: usize) -> bool
 }
 
 // Whether a source's characters share no byte with a destination's room.
+#[tactic(auto, unfolding(crate::specs::Pointer::clear))]
 pub fn is_clear(destination: StrPtr, source: StrPtr) -> bool
     ensures { result ≡ clear destination source }
 {

@@ -68,6 +68,7 @@ fn byte_end(text: &[u8], at: usize, byte: u8) -> usize
 }
 
 // The first word from `at` on; an empty piece where there is none.
+#[tactic(auto, using(crate::proofs::Wording::word_found))]
 pub fn next_word(text: &[u8], at: usize) -> Piece
     ensures { result ≡ next_word text.now at }
 {

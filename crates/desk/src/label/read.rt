@@ -13,6 +13,7 @@ const ROW: usize = records::LOUDSPEAKERS_MAX + 1;
 const MARKS: usize = 3 * ROW;
 
 // Where a kind and number are marked.
+#[tactic(auto, using(crate::proofs::LabelReading::mark_laws))]
 fn mark_of(kind: usize, number: usize) -> usize
     requires { Markable kind number }
     ensures { result ≡ mark_of kind number }

@@ -1,6 +1,7 @@
 use Rattle.charset.specs.Rule.{find_rule}
 use Rattle.strlib.proofs.Answering.{answer_laws}
-use Rattle.charset.proofs.Answering.{sought_left, set_ready}
+use Rattle.strlib.proofs.Answering.{sought_left}
+use Rattle.charset.proofs.Answering.{set_ready}
 use Rattle.charset.proofs.find.find_first.Goals as goal
 
 pub returns-in_err-check_set : goal.returns-in_err-check_set

@@ -1,10 +1,9 @@
 use Rattle.std.proofs.Common.{rules, refl, sym, ◌∙◌}
 use Rattle.number.specs.Number.{read_rule}
-use Rattle.strlib.proofs.Answering.{refusal_some}
+use Rattle.strlib.proofs.Answering.{err_is, refusal_some}
 use Rattle.strlib.specs.declared.StrPtr.{StrPtr}
 use Rattle.desk.specs.Cue.{wrong_word}
 use Rattle.desk.specs.CueInner.{without_word}
-use Rattle.desk.proofs.Refused.{err_is}
 use Rattle.desk.proofs.CueReading.{cue_line, cue_form, cue_read, form_none, form_some}
 use Rattle.desk.proofs.cue.read_cue.Goals as goal
 

@@ -1,5 +1,5 @@
 use Rattle.std.proofs.Common.{arith, sym, ◌∙◌}
-use Rattle.number.proofs.Ranging.{cond_passed}
+use Rattle.strlib.proofs.Answering.{cond_passed}
 use Rattle.number.proofs.Reading.{digits_none, digits_start, digits_stop, digits_step, digits_laws}
 use Rattle.number.proofs.reader.read_digits.Goals as goal
 

@@ -1,4 +1,4 @@
-use Rattle.desk.proofs.Refused.{err_is}
+use Rattle.strlib.proofs.Answering.{err_is}
 use Rattle.desk.proofs.LabelAdding.{add_laws, add_refused}
 use Rattle.desk.proofs.label.add.add_label.Goals as goal
 

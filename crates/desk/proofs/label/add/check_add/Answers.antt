@@ -1,6 +1,7 @@
+use Rattle.strlib.proofs.Answering.{err_is}
 use Rattle.std.proofs.Common.{rules}
 use Rattle.std.proofs.Common.{length, ◌≡◌, ℕ}
-use Rattle.desk.proofs.Refused.{err_is, put_err}
+use Rattle.desk.proofs.Refused.{put_err}
 use Rattle.desk.proofs.LabelAdding.{refusal_laws, add_list, add_checked, front_length}
 use Rattle.desk.proofs.label.add.check_add.Goals as goal
 

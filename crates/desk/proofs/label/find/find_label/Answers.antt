@@ -1,8 +1,8 @@
 use Rattle.std.proofs.Common.{rules}
 use Rattle.std.proofs.Common.{length, refl, ◌∙◌, ◌≡◌, ℕ}
 use Rattle.strlib.specs.Refusal.{refusal_number, number_found}
-use Rattle.strlib.proofs.Answering.{refusal_some}
-use Rattle.desk.proofs.Refused.{err_is, put_err, put_ok}
+use Rattle.strlib.proofs.Answering.{err_is, refusal_some}
+use Rattle.desk.proofs.Refused.{put_err, put_ok}
 use Rattle.desk.proofs.LabelFinding.{find_list, find_key, find_name, found_counted}
 use Rattle.desk.proofs.label.find.find_label.Goals as goal
 

@@ -1,6 +1,7 @@
+use Rattle.strlib.proofs.Answering.{err_is}
 use Rattle.std.proofs.Common.{rules, sym, ◌≡◌}
 use Rattle.strlib.specs.Refusal.{refusal_number, number_found}
-use Rattle.desk.proofs.Refused.{err_is, put_err, put_ok}
+use Rattle.desk.proofs.Refused.{put_err, put_ok}
 use Rattle.desk.proofs.LabelReading.{read_laws, read_more}
 use Rattle.desk.proofs.label.read.read_labels.Goals as goal
 

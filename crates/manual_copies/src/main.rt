@@ -5,17 +5,17 @@
 // words and bytes of other sizes.
 #![tactic(auto)]
 
-use std::io;
+use saying::Out;
+use std::fmt;
 
 mod copies;
 
-fn sections(rt: &impl Print) -> io::Result<()> {
-    copies::section_3_0(rt)?;
-    copies::section_3_2(rt)?;
-    copies::section_5_2(rt)
+fn sections(out: &mut Out) -> fmt::Result {
+    copies::section_3_0(out)?;
+    copies::section_3_2(out)?;
+    copies::section_5_2(out)
 }
 
-// What cannot be printed is left out; nobody is there to be told.
-fn main(rt: HostRuntime) {
-    let _ = sections(&rt);
+fn main() {
+    let _ = sections(&mut Out);
 }

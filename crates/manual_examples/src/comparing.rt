@@ -1,7 +1,8 @@
 // 3.1 and 5.1, the comparative routines. A comparison is written as yes or no, the sign of the lengths, and the split.
 use compare::Comparison;
-use saying::{Answer, Yes};
-use std::{fmt, io};
+use saying::{Answer, Out, Yes};
+use std::fmt;
+use std::fmt::Write;
 use strlib::StrPtr;
 
 const EQUAL: usize = 0;
@@ -40,7 +41,7 @@ fn compare(
     Answer(answer.map(Compared))
 }
 
-fn level_one(rt: &impl Print, store: &[u8]) -> io::Result<()> {
+fn level_one(out: &mut Out, store: &[u8]) -> fmt::Result {
     let istr = StrPtr::full(0, 5);
     let astr = StrPtr::full(5, 5);
     let calls = [
@@ -49,7 +50,8 @@ fn level_one(rt: &impl Print, store: &[u8]) -> io::Result<()> {
         ("geqstr", StrPtr::full(10, 10), GREATER_OR_EQUAL),
     ];
     for (name, string2, code) in calls {
-        println!(rt;
+        writeln!(
+            out,
             "3.1  {name} {}",
             compare(store, istr, string2, code, PADDED, 0)
         )?;
@@ -57,12 +59,12 @@ fn level_one(rt: &impl Print, store: &[u8]) -> io::Result<()> {
     Ok(())
 }
 
-pub(crate) fn section_3_1(rt: &impl Print) -> io::Result<()> {
-    level_one(rt, b"aaa  bbb  aaa       ")
+pub(crate) fn section_3_1(out: &mut Out) -> fmt::Result {
+    level_one(out, b"aaa  bbb  aaa       ")
 }
 
 // The calls at their statement numbers, without a translation.
-fn styles(rt: &impl Print, store: &[u8]) -> io::Result<()> {
+fn styles(out: &mut Out, store: &[u8]) -> fmt::Result {
     let abcde = StrPtr::full(0, 5);
     let xyz = StrPtr::full(5, 5);
     let abc = StrPtr::full(10, 5);
@@ -80,7 +82,8 @@ fn styles(rt: &impl Print, store: &[u8]) -> io::Result<()> {
         (1000, np_abc, abc, EQUAL, EXACT),
     ];
     for (number, string1, string2, code, style) in calls {
-        println!(rt;
+        writeln!(
+            out,
             "5.1 {number:>4} {}",
             compare(store, string1, string2, code, style, 0)
         )?;
@@ -90,7 +93,7 @@ fn styles(rt: &impl Print, store: &[u8]) -> io::Result<()> {
 
 // The calls at their statement numbers, for equality of padded strings. The manual means capitals: it gives octal 101
 // as the code of "a".
-fn translations(rt: &impl Print, store: &[u8]) -> io::Result<()> {
+fn translations(out: &mut Out, store: &[u8]) -> fmt::Result {
     let abcde = StrPtr::full(0, 5);
     let s12345 = StrPtr::full(5, 5);
     let abcd0 = StrPtr::full(10, 5);
@@ -102,12 +105,12 @@ fn translations(rt: &impl Print, store: &[u8]) -> io::Result<()> {
     ];
     for (number, string1, string2, translation) in calls {
         let answer = compare(store, string1, string2, EQUAL, PADDED, translation);
-        println!(rt; "5.1 {number:>4} {answer}")?;
+        writeln!(out, "5.1 {number:>4} {answer}")?;
     }
     Ok(())
 }
 
-pub(crate) fn section_5_1(rt: &impl Print) -> io::Result<()> {
-    styles(rt, b"abcdexyz  abc  ")?;
-    translations(rt, b"ABCDE12345ABCD01234 ")
+pub(crate) fn section_5_1(out: &mut Out) -> fmt::Result {
+    styles(out, b"abcdexyz  abc  ")?;
+    translations(out, b"ABCDE12345ABCD01234 ")
 }

@@ -11,20 +11,20 @@
 // Out of document 01's scope, and so left out: the lengths of literals (3.5).
 #![tactic(auto)]
 
-use std::io;
+use saying::Out;
+use std::fmt;
 
 mod comparing;
 mod replacing;
 mod substrings;
 
-fn sections(rt: &impl Print) -> io::Result<()> {
-    comparing::section_3_1(rt)?;
-    substrings::section_3_3(rt)?;
-    replacing::section_3_5(rt)?;
-    comparing::section_5_1(rt)
+fn sections(out: &mut Out) -> fmt::Result {
+    comparing::section_3_1(out)?;
+    substrings::section_3_3(out)?;
+    replacing::section_3_5(out)?;
+    comparing::section_5_1(out)
 }
 
-// What cannot be printed is left out; nobody is there to be told.
-fn main(rt: HostRuntime) {
-    let _ = sections(&rt);
+fn main() {
+    let _ = sections(&mut Out);
 }

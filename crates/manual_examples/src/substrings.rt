@@ -1,6 +1,7 @@
 // 3.3, routines which return substrings. Section 3.5 counts by the first of these functions too.
-use saying::{Shown, given};
-use std::io;
+use saying::{Out, Shown, given};
+use std::fmt;
+use std::fmt::Write;
 use strlib::StrPtr;
 
 pub(crate) fn counted(store: &[u8], string: StrPtr, position: usize, count: usize) -> StrPtr {
@@ -11,7 +12,7 @@ fn between(store: &[u8], string: StrPtr, pos1: usize, pos2: usize) -> StrPtr {
     given(cutting::between(store, string, pos1, pos2))
 }
 
-fn cuts(rt: &impl Print, store: &[u8], digits: StrPtr) -> io::Result<()> {
+fn cuts(out: &mut Out, store: &[u8], digits: StrPtr) -> fmt::Result {
     let sps = [
         (1, given(cutting::relative(store, digits, 2))),
         (2, counted(store, digits, 1, 6)),
@@ -19,11 +20,11 @@ fn cuts(rt: &impl Print, store: &[u8], digits: StrPtr) -> io::Result<()> {
         (4, between(store, digits, 7, 0)),
     ];
     for (number, string) in sps {
-        println!(rt; "3.3  sp {number} {}", Shown::new(store, string))?;
+        writeln!(out, "3.3  sp {number} {}", Shown { store, string })?;
     }
     Ok(())
 }
 
-pub(crate) fn section_3_3(rt: &impl Print) -> io::Result<()> {
-    cuts(rt, b"1122334455", StrPtr::full(0, 10))
+pub(crate) fn section_3_3(out: &mut Out) -> fmt::Result {
+    cuts(out, b"1122334455", StrPtr::full(0, 10))
 }

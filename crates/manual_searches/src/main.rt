@@ -7,21 +7,21 @@
 // and the lines say so.
 #![tactic(auto)]
 
-use std::io;
+use saying::Out;
+use std::fmt;
 
 mod cuts;
 mod numbers;
 mod searching;
 mod sets;
 
-fn sections(rt: &impl Print) -> io::Result<()> {
-    searching::section_3_4(rt)?;
-    searching::section_5_3(rt)?;
-    sets::section_5_4(rt)?;
-    numbers::section_5_5(rt)
+fn sections(out: &mut Out) -> fmt::Result {
+    searching::section_3_4(out)?;
+    searching::section_5_3(out)?;
+    sets::section_5_4(out)?;
+    numbers::section_5_5(out)
 }
 
-// What cannot be printed is left out; nobody is there to be told.
-fn main(rt: HostRuntime) {
-    let _ = sections(&rt);
+fn main() {
+    let _ = sections(&mut Out);
 }

@@ -2,8 +2,9 @@
 // table 1 and take it out of table 4, in which befchr is to find it.
 use super::cuts::{between, relative};
 use charset::CharAt;
-use saying::{Answer, show};
-use std::{fmt, io};
+use saying::{Answer, Out, show};
+use std::fmt;
+use std::fmt::Write;
 use strlib::{Refusal, StrPtr};
 
 type Block = [u64; StrPtr::BLOCK_WORDS];
@@ -66,92 +67,95 @@ fn parenthesis_tables(store: &[u8], block: &mut Block) -> Result<(), Refusal> {
     charset::add_characters(store, StrPtr::full(12, 1), block, 16)
 }
 
-fn say_tables(rt: &impl Print, block: &Block, made: Result<(), Refusal>) -> io::Result<()> {
+fn say_tables(out: &mut Out, block: &Block, made: Result<(), Refusal>) -> fmt::Result {
     let answer = Answer(made.map(|()| Sums(*block)));
-    println!(rt; "5.4  tables of a, 1, plus, point, blank, tab: {answer}")
+    writeln!(
+        out,
+        "5.4  tables of a, 1, plus, point, blank, tab: {answer}"
+    )
 }
 
 // What stands in sp1 before the first character that is no digit or sign.
 fn before_other(
-    rt: &impl Print,
+    out: &mut Out,
     name: &str,
     store: &[u8],
     sp1: StrPtr,
     block: &Block,
-) -> io::Result<()> {
+) -> fmt::Result {
     let c = first(store, sp1, block, 4);
-    show(rt, name, store, between(store, sp1, 1, c.position))
+    show(out, name, store, between(store, sp1, 1, c.position))
 }
 
 // sp1 is what stands after the first character that is no blank and no tab, or, as the manual's text has it, from that
 // character on.
-fn stripped(rt: &impl Print, store: &[u8], numlst: StrPtr, block: &Block) -> io::Result<()> {
+fn stripped(out: &mut Out, store: &[u8], numlst: StrPtr, block: &Block) -> fmt::Result {
     let c = first(store, numlst, block, 2);
     let after = relative(store, numlst, c.position);
     let from = between(store, numlst, c.position, 0);
     before_other(
-        rt,
+        out,
         "5.4  sp2 (manual: '+73', but aftchr leaves the match out)",
         store,
         after,
         block,
     )?;
-    before_other(rt, "5.4  sp2 with the match", store, from, block)
+    before_other(out, "5.4  sp2 with the match", store, from, block)
 }
 
 // The innermost parentheses: from the last left one to the first right one after it. The host starts at 1 in the store,
 // so that the start of what stands after the right one is innrp.
-fn innermost(rt: &impl Print, store: &[u8], expres: StrPtr, block: &Block) -> io::Result<()> {
+fn innermost(out: &mut Out, store: &[u8], expres: StrPtr, block: &Block) -> fmt::Result {
     let left = last(store, expres, block, 8);
-    println!(rt; "5.4  innlp {} {}", left.position, left.code)?;
+    writeln!(out, "5.4  innlp {} {}", left.position, left.code)?;
     let part = between(store, expres, left.position, 0);
     let right = first(store, part, block, 16);
     let rest = relative(store, part, right.position);
-    println!(rt; "5.4  innrp {}", rest.start)?;
+    writeln!(out, "5.4  innrp {}", rest.start)?;
     let sp3 = between(store, expres, left.position, rest.start);
-    show(rt, "5.4  sp3", store, sp3)
+    show(out, "5.4  sp3", store, sp3)
 }
 
 // The first left parenthesis: the host cut before it, then asked of the first character alone.
-fn first_left(rt: &impl Print, store: &[u8], expres: StrPtr, block: &Block) -> io::Result<()> {
+fn first_left(out: &mut Out, store: &[u8], expres: StrPtr, block: &Block) -> fmt::Result {
     let c = first(store, expres, block, 8);
     let sp1 = between(store, expres, c.position, 0);
     let sp2 = between(store, expres, 1, c.position);
     show(
-        rt,
+        out,
         "5.4  allchr sp1 (manual: 'i+(j+k)-)', the match left out)",
         store,
         sp1,
     )?;
-    show(rt, "5.4  allchr sp2 (manual: '(', the match)", store, sp2)?;
+    show(out, "5.4  allchr sp2 (manual: '(', the match)", store, sp2)?;
     let c = first(store, between(store, expres, 1, 2), block, 8);
-    println!(rt; "5.4  anchor (manual: 0) {} {}", c.position, c.code)
+    writeln!(out, "5.4  anchor (manual: 0) {} {}", c.position, c.code)
 }
 
-fn parentheses(rt: &impl Print, store: &[u8], expres: StrPtr, block: &mut Block) -> io::Result<()> {
+fn parentheses(out: &mut Out, store: &[u8], expres: StrPtr, block: &mut Block) -> fmt::Result {
     match parenthesis_tables(store, block) {
         Ok(()) => {
-            innermost(rt, store, expres, block)?;
-            first_left(rt, store, expres, block)
+            innermost(out, store, expres, block)?;
+            first_left(out, store, expres, block)
         }
-        Err(refusal) => println!(rt; "5.4  refused {}", u8::from(refusal)),
+        Err(refusal) => writeln!(out, "5.4  refused {}", u8::from(refusal)),
     }
 }
 
-fn searches(rt: &impl Print, block: &mut Block) -> io::Result<()> {
-    stripped(rt, b" +73 24   ", StrPtr::full(0, 10), block)?;
-    parentheses(rt, b" (i+(j+k)-)()", StrPtr::full(1, 10), block)
+fn searches(out: &mut Out, block: &mut Block) -> fmt::Result {
+    stripped(out, b" +73 24   ", StrPtr::full(0, 10), block)?;
+    parentheses(out, b" (i+(j+k)-)()", StrPtr::full(1, 10), block)
 }
 
-fn tables(rt: &impl Print, store: &[u8]) -> io::Result<()> {
+fn tables(out: &mut Out, store: &[u8]) -> fmt::Result {
     let mut block = [0; StrPtr::BLOCK_WORDS];
     let made = two_tables(store, &mut block);
-    say_tables(rt, &block, made)?;
+    say_tables(out, &block, made)?;
     let made = three_tables(store, &mut block);
-    say_tables(rt, &block, made)?;
-    searches(rt, &mut block)
+    say_tables(out, &block, made)?;
+    searches(out, &mut block)
 }
 
-pub(crate) fn section_5_4(rt: &impl Print) -> io::Result<()> {
-    tables(rt, b"aeiou \t+-1234567890.-+")
+pub(crate) fn section_5_4(out: &mut Out) -> fmt::Result {
+    tables(out, b"aeiou \t+-1234567890.-+")
 }

@@ -10,7 +10,9 @@
 
 mod old;
 
-use std::{fmt, io};
+use saying::Out;
+use std::fmt;
+use std::fmt::Write;
 
 // The bytes of a store here.
 const STORE: usize = 4096;
@@ -102,16 +104,16 @@ fn nothing_yet() -> Seen {
     }
 }
 
-fn of_length(rt: &impl Print, n: usize) -> io::Result<()> {
+fn of_length(out: &mut Out, n: usize) -> fmt::Result {
     let mut seen = end_to_end(nothing_yet(), n);
     for k in DISTANCES {
         seen = at_both(seen, n, k);
     }
-    println!(rt; "length {n}: {seen}")
+    writeln!(out, "length {n}: {seen}")
 }
 
 // Places outside the store: one byte too far, then so far that place and length wrap round.
-fn outside(rt: &impl Print) -> io::Result<()> {
+fn outside(out: &mut Out) -> fmt::Result {
     let most = usize::MAX;
     let seen = nothing_yet();
     let seen = trial(seen, STORE - 7, 0, 8);
@@ -127,17 +129,16 @@ fn outside(rt: &impl Print) -> io::Result<()> {
     let seen = trial(seen, most - 7, 0, 8);
     let seen = trial(seen, 0, most - 7, 8);
     let seen = trial(seen, most, most, most);
-    println!(rt; "outside: {seen}")
+    writeln!(out, "outside: {seen}")
 }
 
-fn moves(rt: &impl Print) -> io::Result<()> {
+fn moves(out: &mut Out) -> fmt::Result {
     for n in LENGTHS {
-        of_length(rt, n)?;
+        of_length(out, n)?;
     }
-    outside(rt)
+    outside(out)
 }
 
-// What cannot be printed is left out; nobody is there to be told.
-fn main(rt: HostRuntime) {
-    let _ = moves(&rt);
+fn main() {
+    let _ = moves(&mut Out);
 }

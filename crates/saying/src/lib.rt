@@ -1,8 +1,20 @@
 // How the programs of examples write an answer.
 #![tactic(auto)]
 
-use std::{fmt, io};
+use std::fmt;
+use std::fmt::Write;
 use strlib::{Refusal, StrList, StrPtr};
+
+// Standard output. A text that could not be written is passed over, so that a program ends as it did.
+#[derive(Clone, Copy)]
+pub struct Out;
+
+impl fmt::Write for Out {
+    fn write_str(&mut self, text: &str) -> fmt::Result {
+        io::write_all(1, text.as_bytes());
+        Ok(())
+    }
+}
 
 // Of a test: yes or no.
 #[derive(Clone, Copy)]
@@ -11,14 +23,8 @@ pub struct Yes(pub bool);
 // A string in its store: its characters, its length and its maximum.
 #[derive(Clone, Copy)]
 pub struct Shown<'a> {
-    store: &'a [u8],
-    string: StrPtr,
-}
-
-impl<'a> Shown<'a> {
-    pub fn new(store: &'a [u8], string: StrPtr) -> Self {
-        Self { store, string }
-    }
+    pub store: &'a [u8],
+    pub string: StrPtr,
 }
 
 // What a search gives, or that there is nothing.
@@ -66,12 +72,12 @@ impl<T: fmt::Display> fmt::Display for Answer<T> {
 
 // Of a call that gives a string or refuses.
 pub fn string_answer(store: &[u8], answer: Result<StrPtr, Refusal>) -> Answer<Shown> {
-    Answer(answer.map(|string| Shown::new(store, string)))
+    Answer(answer.map(|string| Shown { store, string }))
 }
 
 // A line for a string.
-pub fn show(rt: &impl Print, name: &str, store: &[u8], string: StrPtr) -> io::Result<()> {
-    println!(rt; "{name} {}", Shown::new(store, string))
+pub fn show(out: &mut Out, name: &str, store: &[u8], string: StrPtr) -> fmt::Result {
+    writeln!(out, "{name} {}", Shown { store, string })
 }
 
 // The string that a call gave, to go on with; the null string where it refused.

@@ -6,9 +6,10 @@
 
 ghost use Rattle.table_examples.specs.Two.{two_answered, SearchedTwo};
 
-use saying::Answer;
+use saying::{Answer, Out};
 use search::Match;
-use std::{fmt, io};
+use std::fmt;
+use std::fmt::Write;
 use strlib::{Refusal, StrList, StrPtr};
 use table::{Note, Ran};
 
@@ -66,16 +67,16 @@ impl fmt::Display for Line {
 }
 
 fn say_run(
-    rt: &impl Print,
+    out: &mut Out,
     name: &str,
     answer: Result<Ran, Refusal>,
     plain: Result<Option<Match>, Refusal>,
-) -> io::Result<()> {
+) -> fmt::Result {
     let line = answer.map(|ran| Line {
         ran,
         same: is_plain(ran.note, plain),
     });
-    println!(rt; "{name} {}", Answer(line))
+    writeln!(out, "{name} {}", Answer(line))
 }
 
 // A host of n characters at the front of its store, without its first character.
@@ -98,45 +99,44 @@ fn strings_from(start: usize, sizes: &[usize]) -> StrList {
 }
 
 // The store is the host, of n characters, followed by the strings, so that the plain search may read both.
-fn show(rt: &impl Print, name: &str, store: &[u8], n: usize, sizes: &[usize]) -> io::Result<()> {
+fn show(out: &mut Out, name: &str, store: &[u8], n: usize, sizes: &[usize]) -> fmt::Result {
     let list = strings_from(n, sizes);
     let whole = StrPtr::full(0, n);
     let rest = rest_of(n);
     let mut words = [7; StrPtr::TABLE_MIN];
     match search_two(store, list, &mut words, store, whole, store, rest) {
         Ok((first, second)) => {
-            say_run(rt, name, first, search::search(store, whole, list))?;
-            say_run(rt, name, second, search::search(store, rest, list))
+            say_run(out, name, first, search::search(store, whole, list))?;
+            say_run(out, name, second, search::search(store, rest, list))
         }
-        Err(refusal) => println!(rt; "{name} not translated {}", u8::from(refusal)),
+        Err(refusal) => writeln!(out, "{name} not translated {}", u8::from(refusal)),
     }
 }
 
-fn examples(rt: &impl Print) -> io::Result<()> {
-    show(rt, "A", b"0123456789567893423", 10, &[5, 2, 2])?;
-    show(rt, "B", b"01234567893434567", 10, &[2, 5])?;
-    show(rt, "C", b"01234567893456734", 10, &[5, 2])?;
-    show(rt, "D", b"0123456789", 10, &[0])?;
-    show(rt, "E", b"012345678901234", 10, &[5, 0])?;
-    show(rt, "F", b"012345678923456", 10, &[5, 0])?;
-    show(rt, "G", b"a", 0, &[1])?;
-    show(rt, "H", b"abcxabcdbc", 4, &[4, 2])?;
-    show(rt, "I", b"abcdexabcdefbcde", 6, &[6, 2, 2])?;
-    show(rt, "first completed", b"abcdabcdbc", 4, &[4, 2])?;
-    show(rt, "no strings", b"0123456789", 10, &[])?;
-    show(rt, "sure where 'ab' ends", b"abxab", 3, &[2])?;
-    show(rt, "'abc' comes too late", b"abccababc", 4, &[2, 3])?;
-    show(rt, "'abcd' breaks off", b"abcxyzabcdbc", 6, &[4, 2])?;
-    show(rt, "null string last", b"axyab", 3, &[2, 0])?;
-    show(rt, "null string first", b"axyab", 3, &[0, 2])?;
-    show(rt, "33 strings", b"0123456789", 10, &[0; 33])?;
-    show(rt, "bad pointer", b"0123456789a", 10, &[2])?;
-    show(rt, "byte 128", b"0123456789\x80", 10, &[1])?;
+fn examples(out: &mut Out) -> fmt::Result {
+    show(out, "A", b"0123456789567893423", 10, &[5, 2, 2])?;
+    show(out, "B", b"01234567893434567", 10, &[2, 5])?;
+    show(out, "C", b"01234567893456734", 10, &[5, 2])?;
+    show(out, "D", b"0123456789", 10, &[0])?;
+    show(out, "E", b"012345678901234", 10, &[5, 0])?;
+    show(out, "F", b"012345678923456", 10, &[5, 0])?;
+    show(out, "G", b"a", 0, &[1])?;
+    show(out, "H", b"abcxabcdbc", 4, &[4, 2])?;
+    show(out, "I", b"abcdexabcdefbcde", 6, &[6, 2, 2])?;
+    show(out, "first completed", b"abcdabcdbc", 4, &[4, 2])?;
+    show(out, "no strings", b"0123456789", 10, &[])?;
+    show(out, "sure where 'ab' ends", b"abxab", 3, &[2])?;
+    show(out, "'abc' comes too late", b"abccababc", 4, &[2, 3])?;
+    show(out, "'abcd' breaks off", b"abcxyzabcdbc", 6, &[4, 2])?;
+    show(out, "null string last", b"axyab", 3, &[2, 0])?;
+    show(out, "null string first", b"axyab", 3, &[0, 2])?;
+    show(out, "33 strings", b"0123456789", 10, &[0; 33])?;
+    show(out, "bad pointer", b"0123456789a", 10, &[2])?;
+    show(out, "byte 128", b"0123456789\x80", 10, &[1])?;
     let characters = b"a\x7F\x00\x7F\x00\x00\x7F";
-    show(rt, "characters 0 and 127", characters, 4, &[2, 1])
+    show(out, "characters 0 and 127", characters, 4, &[2, 1])
 }
 
-// What cannot be printed is left out; nobody is there to be told.
-fn main(rt: HostRuntime) {
-    let _ = examples(&rt);
+fn main() {
+    let _ = examples(&mut Out);
 }

@@ -1,3 +1,4 @@
 pub mod Bursting
 pub mod Whole
 pub mod Same
+pub mod Named

@@ -13,7 +13,7 @@ use lib.ListN.{length, get_or, set, take, length-set}
 use lib.Seq.{take_all, take-suc-set}
 use Rattle.std.proofs.Common.{Result, Ok, Err}
 use Rattle.std.specs.Result.{IsErrAnd}
-use Rattle.strlib.proofs.Answering.{err_is, refusal_some}
+use Rattle.strlib.proofs.Answering.{err_is, refusal_some, fails_first, next}
 use Rattle.strlib.proofs.Pointing.{text_length}
 use Rattle.strlib.specs.Pointer.{pointer, text_of}
 use Rattle.strlib.specs.Quoted.{bytes}
@@ -101,10 +101,10 @@ word_stop r f p k h = rw (err_is r f p) h
 -- one test, and those behind it
 pub word_here : (f : CueFault) (t b : Bool) (n k : ℕ) → fault f ≡ cond t (0, 0) (11, suc n) → t ≡ b → fault f ≡ formless (cond b k (suc n))
 word_here f true b n k e q = absurd (refusal_some f.refusal (ap (λ (x : ℕ × ℕ). x.0) e))
-word_here f false b n k e q = rw (← q) e
+word_here f false b n k e q = e ∙ ap formless (fails_first (suc n) (suc n) b k (λ z. omega arith) (rw (← q) refl))
 
 pub word_next : (t b : Bool) (n k : ℕ) (x : ℕ × ℕ) → ◌≡◌ {A = ℕ × ℕ} (0, 0) (cond t (0, 0) (11, suc n)) → t ≡ b → x ≡ formless k → x ≡ formless (cond b k (suc n))
-word_next true b n k x e q r = rw (← q) r
+word_next true b n k x e q r = r ∙ ap formless (next b n k k (rw (← q) refl) refl)
 word_next false b n k x e q r = let z : ◌≡◌ {A = ℕ} 0 11 = ap (λ (x : ℕ × ℕ). x.0) e in absurd (omega arith)
 
 -- the last test

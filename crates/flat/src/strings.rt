@@ -1,6 +1,6 @@
 // Strings, what a bounded copy gives, and parts of lent bytes.
 ghost use Rattle.std.specs.Prelude.{◌≡◌};
-ghost use Rattle.strlib.specs.Refusal.{answered};
+ghost use Rattle.strlib.specs.Refusal.{refused, answered};
 ghost use Rattle.flat.specs.Strings.{flat_string, flat_copied, flat_round, flat_part, flat_label};
 
 use copying::Wrote;
@@ -49,15 +49,57 @@ pub struct FlatLabel {
     pub length: usize,
 }
 
+// Refused with any number: a refusal's, or another.
+impl FlatString {
+    pub fn refused(refusal: u8) -> Self
+        ensures { result ≡ flat_string (refused refusal) }
+    {
+        Self {
+            refusal,
+            string: StrPtr::full(0, 0),
+        }
+    }
+}
+
+impl FlatCopied {
+    pub fn refused(refusal: u8) -> Self
+        ensures { result ≡ flat_copied (refused refusal) }
+    {
+        Self {
+            refusal,
+            completed: false,
+            to: StrPtr::full(0, 0),
+        }
+    }
+}
+
+impl FlatRound {
+    pub fn refused(refusal: u8) -> Self
+        ensures { result ≡ flat_round (refused refusal) }
+    {
+        let copied = FlatCopied::refused(refusal);
+        Self {
+            refusal,
+            completed: copied.completed,
+            to: copied.to,
+            next: Place {
+                string: 0,
+                character: 0,
+            },
+        }
+    }
+}
+
 impl From<Result<StrPtr, Refusal>> for FlatString {
     ghost from_gives = { λ a f. f ≡ flat_string (answered a) };
 
     fn from(a: Result<StrPtr, Refusal>) -> FlatString {
         match a {
             Ok(string) => FlatString { refusal: 0, string },
+            // written out: by a call of `refused` a written number takes a little longer
             Err(refusal) => FlatString {
                 refusal: u8::from(refusal),
-                string: StrPtr::full(0, 0),
+                string: StrPtr::new(0, 0, 0),
             },
         }
     }
@@ -73,11 +115,7 @@ impl From<Result<Wrote, Refusal>> for FlatCopied {
                 completed: w.completed,
                 to: w.to,
             },
-            Err(refusal) => FlatCopied {
-                refusal: u8::from(refusal),
-                completed: false,
-                to: StrPtr::full(0, 0),
-            },
+            Err(refusal) => FlatCopied::refused(u8::from(refusal)),
         }
     }
 }
@@ -93,15 +131,7 @@ impl From<Result<Round, Refusal>> for FlatRound {
                 to: r.to,
                 next: r.next,
             },
-            Err(refusal) => FlatRound {
-                refusal: u8::from(refusal),
-                completed: false,
-                to: StrPtr::full(0, 0),
-                next: Place {
-                    string: 0,
-                    character: 0,
-                },
-            },
+            Err(refusal) => FlatRound::refused(u8::from(refusal)),
         }
     }
 }

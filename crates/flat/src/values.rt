@@ -1,8 +1,8 @@
 // Comparisons, numbers and cues; and the number alone, where a call answers nothing else.
 ghost use Rattle.std.specs.Prelude.{◌≡◌};
-ghost use Rattle.strlib.specs.Refusal.{answered};
+ghost use Rattle.strlib.specs.Refusal.{refused, gives, answered};
 ghost use Rattle.compare.specs.Compare.{compared_of};
-ghost use Rattle.records.specs.Told.{told_by};
+ghost use Rattle.records.specs.Told.{refused_at, told_by};
 ghost use Rattle.desk.specs.Cue.{cue_answered, word_of};
 ghost use Rattle.flat.specs.Values.{flat_comparison, flat_number, flat_cue, flat_size, flat_done};
 
@@ -45,6 +45,66 @@ pub struct FlatSize {
     pub value: usize,
 }
 
+// Refused with any number: a refusal's, or another.
+impl FlatComparison {
+    // Answered with any sign; a comparison's is −1, 0 or 1.
+    pub fn given(yes: bool, sign: i8, split: usize) -> Self
+        ensures { result ≡ flat_comparison (gives (record { yes = yes; sign = sign; split = split })) }
+    {
+        Self {
+            refusal: 0,
+            yes,
+            sign,
+            split,
+        }
+    }
+
+    pub fn refused(refusal: u8) -> Self
+        ensures { result ≡ flat_comparison (refused refusal) }
+    {
+        Self {
+            refusal,
+            yes: false,
+            sign: 0,
+            split: 0,
+        }
+    }
+}
+
+impl FlatNumber {
+    pub fn refused(refusal: u8) -> Self
+        ensures { result ≡ flat_number (refused refusal) }
+    {
+        Self { refusal, value: 0 }
+    }
+}
+
+impl FlatCue {
+    pub fn refused(refusal: u8, word: u8) -> Self
+        ensures { result ≡ flat_cue (refused refusal, word) }
+    {
+        Self {
+            refusal,
+            word,
+            microphone: 0,
+            loudspeaker: 0,
+            gain: 0,
+        }
+    }
+}
+
+impl FlatSize {
+    pub fn refused(refusal: u8, offset: usize) -> Self
+        ensures { result ≡ flat_size (refused_at refusal offset) }
+    {
+        Self {
+            refusal,
+            offset,
+            value: 0,
+        }
+    }
+}
+
 impl From<Result<Comparison, Refusal>> for FlatComparison {
     ghost from_gives = { λ a f. f ≡ flat_comparison (compared_of a) };
 
@@ -56,12 +116,7 @@ impl From<Result<Comparison, Refusal>> for FlatComparison {
                 sign: c.sign as i8,
                 split: c.split,
             },
-            Err(refusal) => FlatComparison {
-                refusal: u8::from(refusal),
-                yes: false,
-                sign: 0,
-                split: 0,
-            },
+            Err(refusal) => FlatComparison::refused(u8::from(refusal)),
         }
     }
 }
@@ -72,10 +127,7 @@ impl From<Result<i64, Refusal>> for FlatNumber {
     fn from(a: Result<i64, Refusal>) -> FlatNumber {
         match a {
             Ok(value) => FlatNumber { refusal: 0, value },
-            Err(refusal) => FlatNumber {
-                refusal: u8::from(refusal),
-                value: 0,
-            },
+            Err(refusal) => FlatNumber::refused(u8::from(refusal)),
         }
     }
 }
@@ -92,13 +144,7 @@ impl From<Result<Cue, CueFault>> for FlatCue {
                 loudspeaker: c.loudspeaker,
                 gain: c.gain,
             },
-            Err(fault) => FlatCue {
-                refusal: u8::from(fault.refusal),
-                word: fault.word,
-                microphone: 0,
-                loudspeaker: 0,
-                gain: 0,
-            },
+            Err(fault) => FlatCue::refused(u8::from(fault.refusal), fault.word),
         }
     }
 }
@@ -113,11 +159,7 @@ impl From<Result<usize, Fault>> for FlatSize {
                 offset: 0,
                 value,
             },
-            Err(fault) => FlatSize {
-                refusal: u8::from(fault.refusal),
-                offset: fault.offset,
-                value: 0,
-            },
+            Err(fault) => FlatSize::refused(u8::from(fault.refusal), fault.offset),
         }
     }
 }

@@ -65,8 +65,9 @@ pub struct FlatName {
     pub length: usize,
 }
 
+// Nothing found, with 0, or refused with any number: a refusal's, or another.
 impl FlatMatch {
-    fn none(refusal: u8) -> Self
+    pub fn none(refusal: u8) -> Self
         ensures { result ≡ no_match refusal }
     {
         Self {
@@ -100,7 +101,7 @@ impl From<Result<Option<Match>, Refusal>> for FlatMatch {
 }
 
 impl FlatSplit {
-    fn none(refusal: u8) -> Self
+    pub fn none(refusal: u8) -> Self
         ensures { result ≡ no_split refusal }
     {
         Self {
@@ -132,7 +133,7 @@ impl From<Result<Option<Split>, Refusal>> for FlatSplit {
 }
 
 impl FlatNote {
-    fn none(refusal: u8, read: usize) -> Self
+    pub fn none(refusal: u8, read: usize) -> Self
         ensures { result ≡ no_note refusal read }
     {
         Self {
@@ -168,7 +169,7 @@ impl From<Result<Ran, Refusal>> for FlatNote {
 }
 
 impl FlatCharacter {
-    fn none(refusal: u8) -> Self
+    pub fn none(refusal: u8) -> Self
         ensures { result ≡ no_character refusal }
     {
         Self {
@@ -198,7 +199,7 @@ impl From<Result<Option<CharAt>, Refusal>> for FlatCharacter {
 }
 
 impl FlatName {
-    fn none(refusal: u8, offset: usize) -> Self
+    pub fn none(refusal: u8, offset: usize) -> Self
         ensures { result ≡ no_name refusal offset }
     {
         Self {

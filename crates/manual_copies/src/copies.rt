@@ -1,7 +1,7 @@
 // 3.0, 3.2 and 5.2, the copying routines.
 use copying::Wrote;
 use joining::{Place, Round};
-use saying::{Answer, Out, Shown, Yes, given, list_of};
+use saying::{Answer, Out, Shown, Spaced, Yes, given, list_of};
 use std::fmt;
 use std::fmt::Write;
 use strlib::{Refusal, StrPtr};
@@ -16,9 +16,9 @@ struct Copied<'a> {
 impl fmt::Display for Copied<'_> {
     fn fmt<W: fmt::Write>(&self, f: &mut fmt::Formatter<W>) -> fmt::Result {
         let Wrote { to, completed } = self.wrote;
-        write!(
+        writeln!(
             f,
-            "{} {}",
+            "{}{}",
             Yes(completed),
             Shown {
                 store: self.store,
@@ -40,14 +40,19 @@ impl fmt::Display for Rounded<'_> {
         let r = self.round;
         write!(
             f,
-            "{} {}",
+            "{}{}",
             Yes(r.completed),
             Shown {
                 store: self.store,
                 string: r.to
             }
         )?;
-        write!(f, ", next {} {}", r.next.string, r.next.character)
+        writeln!(
+            f,
+            ", next{}{}",
+            Spaced(r.next.string),
+            Spaced(r.next.character)
+        )
     }
 }
 
@@ -58,9 +63,9 @@ fn show_copied(
     store: &[u8],
     answer: Result<Wrote, Refusal>,
 ) -> Result<StrPtr, fmt::Error> {
-    writeln!(
+    write!(
         out,
-        "{name} {}",
+        "{name}{}",
         Answer(answer.map(|wrote| Copied { store, wrote }))
     )?;
     Ok(given(answer.map(|wrote| wrote.to)))
@@ -147,7 +152,13 @@ pub(crate) fn section_3_2(out: &mut Out) -> fmt::Result {
 
 // chkstr's four strings of five characters, at the front of the store, into the seven bytes behind them. The next place
 // is also given.
-fn round(out: &mut Out, call: &str, store: &mut [u8], from: Place) -> Result<Place, fmt::Error> {
+fn round(
+    out: &mut Out,
+    call: usize,
+    remark: &str,
+    store: &mut [u8],
+    from: Place,
+) -> Result<Place, fmt::Error> {
     let list = list_of(&[
         StrPtr::full(0, 5),
         StrPtr::full(5, 5),
@@ -155,19 +166,16 @@ fn round(out: &mut Out, call: &str, store: &mut [u8], from: Place) -> Result<Pla
         StrPtr::full(15, 5),
     ]);
     let answer = joining::join_from(store, StrPtr::new(20, 0, 7), list, from);
-    writeln!(
-        out,
-        "5.2  100 call {call} {}",
-        Answer(answer.map(|round| Rounded { store, round }))
-    )?;
+    let rounded = Answer(answer.map(|round| Rounded { store, round }));
+    write!(out, "5.2  100 call{}{remark}{rounded}", Spaced(call))?;
     Ok(answer.map_or(from, |round| round.next))
 }
 
 // Part one. The manual says that seven characters are written the third time too; only six are left.
 fn rounds(out: &mut Out, store: &mut [u8], first: Place) -> fmt::Result {
-    let second = round(out, "1", store, first)?;
-    let third = round(out, "2", store, second)?;
-    round(out, "3 (manual: seven characters)", store, third)?;
+    let second = round(out, 1, "", store, first)?;
+    let third = round(out, 2, "", store, second)?;
+    round(out, 3, " (manual: seven characters)", store, third)?;
     Ok(())
 }
 

@@ -1,6 +1,7 @@
 // 3.1 and 5.1, the comparative routines. A comparison is written as yes or no, the sign of the lengths, and the split.
 use compare::Comparison;
-use saying::{Answer, Out, Yes};
+use saying::{Answer, Out, Spaced, Yes};
+use std::cmp::Ordering;
 use std::fmt;
 use std::fmt::Write;
 use strlib::StrPtr;
@@ -25,7 +26,25 @@ struct Compared(Comparison);
 impl fmt::Display for Compared {
     fn fmt<W: fmt::Write>(&self, f: &mut fmt::Formatter<W>) -> fmt::Result {
         let Comparison { yes, sign, split } = self.0;
-        write!(f, "{} {} {split}", Yes(yes), sign as i8)
+        write!(f, "{}", Yes(yes))?;
+        match sign {
+            Ordering::Less => write!(f, " -1")?,
+            _ => write!(f, "{}", Spaced(sign as i8))?,
+        }
+        writeln!(f, "{}", Spaced(split))
+    }
+}
+
+// A statement number of three or four digits.
+#[derive(Clone, Copy)]
+struct Statement(usize);
+
+impl fmt::Display for Statement {
+    fn fmt<W: fmt::Write>(&self, f: &mut fmt::Formatter<W>) -> fmt::Result {
+        if self.0 < 1000 {
+            write!(f, " ")?;
+        }
+        write!(f, "{}", Spaced(self.0))
     }
 }
 
@@ -45,14 +64,14 @@ fn level_one(out: &mut Out, store: &[u8]) -> fmt::Result {
     let istr = StrPtr::full(0, 5);
     let astr = StrPtr::full(5, 5);
     let calls = [
-        ("eqlstr", astr, EQUAL),
-        ("lesstr", astr, LESS),
-        ("geqstr", StrPtr::full(10, 10), GREATER_OR_EQUAL),
+        ("3.1  eqlstr", astr, EQUAL),
+        ("3.1  lesstr", astr, LESS),
+        ("3.1  geqstr", StrPtr::full(10, 10), GREATER_OR_EQUAL),
     ];
     for (name, string2, code) in calls {
-        writeln!(
+        write!(
             out,
-            "3.1  {name} {}",
+            "{name}{}",
             compare(store, istr, string2, code, PADDED, 0)
         )?;
     }
@@ -82,11 +101,8 @@ fn styles(out: &mut Out, store: &[u8]) -> fmt::Result {
         (1000, np_abc, abc, EQUAL, EXACT),
     ];
     for (number, string1, string2, code, style) in calls {
-        writeln!(
-            out,
-            "5.1 {number:>4} {}",
-            compare(store, string1, string2, code, style, 0)
-        )?;
+        let answer = compare(store, string1, string2, code, style, 0);
+        write!(out, "5.1{}{answer}", Statement(number))?;
     }
     Ok(())
 }
@@ -105,7 +121,7 @@ fn translations(out: &mut Out, store: &[u8]) -> fmt::Result {
     ];
     for (number, string1, string2, translation) in calls {
         let answer = compare(store, string1, string2, EQUAL, PADDED, translation);
-        writeln!(out, "5.1 {number:>4} {answer}")?;
+        write!(out, "5.1{}{answer}", Statement(number))?;
     }
     Ok(())
 }

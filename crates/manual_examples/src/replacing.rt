@@ -1,6 +1,6 @@
 // 3.5, miscellaneous routines.
 use super::substrings::counted;
-use saying::{Out, given, show, string_answer};
+use saying::{Out, Spaced, given, show, string_answer};
 use std::fmt;
 use std::fmt::Write;
 use strlib::StrPtr;
@@ -15,7 +15,8 @@ fn replace(
     string3: StrPtr,
 ) -> fmt::Result {
     let answer = editing::replace(store, string1, string2, string3);
-    writeln!(out, "3.5  repstr {number} {}", string_answer(store, answer))
+    let answer = string_answer(store, answer);
+    write!(out, "3.5  repstr{}{answer}", Spaced(number))
 }
 
 // bldstr, and repstr with the literal 'abc', at 25, before and after setstr.
@@ -49,10 +50,10 @@ fn inserted(out: &mut Out) -> fmt::Result {
 // revstr from l1 into l2, then in l1.
 fn reverse(out: &mut Out, store: &mut [u8], l1: StrPtr, l2: StrPtr) -> fmt::Result {
     let answer = editing::reverse_from(store, l2, l1);
-    writeln!(out, "3.5  sp2 {}", string_answer(store, answer))?;
+    write!(out, "3.5  sp2{}", string_answer(store, answer))?;
     show(out, "3.5  l2", store, l2)?;
     let answer = editing::reverse(store, l1);
-    writeln!(out, "3.5  sp3 {}", string_answer(store, answer))
+    write!(out, "3.5  sp3{}", string_answer(store, answer))
 }
 
 // The replacement takes the second and the third character out of l1.

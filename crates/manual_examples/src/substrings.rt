@@ -1,5 +1,5 @@
 // 3.3, routines which return substrings. Section 3.5 counts by the first of these functions too.
-use saying::{Out, Shown, given};
+use saying::{Out, Shown, Spaced, given};
 use std::fmt;
 use std::fmt::Write;
 use strlib::StrPtr;
@@ -20,7 +20,7 @@ fn cuts(out: &mut Out, store: &[u8], digits: StrPtr) -> fmt::Result {
         (4, between(store, digits, 7, 0)),
     ];
     for (number, string) in sps {
-        writeln!(out, "3.3  sp {number} {}", Shown { store, string })?;
+        writeln!(out, "3.3  sp{}{}", Spaced(number), Shown { store, string })?;
     }
     Ok(())
 }

@@ -1,6 +1,6 @@
 // 3.4 and 5.3, the routines which search strings.
 use super::cuts::{between, relative};
-use saying::{Answer, Found, Out, Shown, list_of, show};
+use saying::{Answer, Found, Out, Shown, Spaced, list_of, show};
 use search::{Match, Split};
 use std::fmt;
 use std::fmt::Write;
@@ -20,8 +20,8 @@ impl fmt::Display for Matched<'_> {
             string: string,
         };
         let m = self.found;
-        write!(f, "{} before {}", m.number, shown(m.before))?;
-        write!(f, ", match {}, after {}", shown(m.matched), shown(m.after))
+        write!(f, "{} before{}", Spaced(m.number), shown(m.before))?;
+        writeln!(f, ", match{}, after{}", shown(m.matched), shown(m.after))
     }
 }
 
@@ -39,7 +39,7 @@ impl fmt::Display for Halves<'_> {
             string: string,
         };
         let s = self.split;
-        write!(f, "{} {} {}", s.number, shown(s.front), shown(s.back))
+        writeln!(f, "{}{}{}", Spaced(s.number), shown(s.front), shown(s.back))
     }
 }
 
@@ -48,7 +48,8 @@ impl fmt::Display for Halves<'_> {
 fn search(out: &mut Out, part: usize, sp: usize, store: &[u8], strings: &[StrPtr]) -> fmt::Result {
     let answer = search::search(store, StrPtr::full(0, 10), list_of(strings));
     let matched = answer.map(|at| Found(at.map(|found| Matched { store, found })));
-    writeln!(out, "3.4  part {part} sp {sp} {}", Answer(matched))
+    let answer = Answer(matched);
+    write!(out, "3.4  part{} sp{}{answer}", Spaced(part), Spaced(sp))
 }
 
 // Part 0 is the example in the text.
@@ -79,16 +80,26 @@ fn show_split(
     answer: Result<Option<Split>, Refusal>,
 ) -> fmt::Result {
     let halves = answer.map(|found| Found(found.map(|split| Halves { store, split })));
-    writeln!(out, "3.4  part 4 {name} {}", Answer(halves))
+    write!(out, "{name}{}", Answer(halves))
 }
 
 fn part_four(out: &mut Out, store: &[u8], digits: StrPtr) -> fmt::Result {
     let l2 = list_of(&[StrPtr::full(35, 2)]);
     let answer = search::search_match_after(store, digits, l2);
-    show_split(out, "sp2 sp1 (manual: sp2 is '12')", store, answer)?;
+    show_split(
+        out,
+        "3.4  part 4 sp2 sp1 (manual: sp2 is '12')",
+        store,
+        answer,
+    )?;
     let l3 = list_of(&[StrPtr::full(37, 2)]);
     let answer = search::search_before_match(store, digits, l3);
-    show_split(out, "sp3 sp4 (manual: sp3 is '123')", store, answer)
+    show_split(
+        out,
+        "3.4  part 4 sp3 sp4 (manual: sp3 is '123')",
+        store,
+        answer,
+    )
 }
 
 fn digits(out: &mut Out, store: &[u8]) -> fmt::Result {
@@ -118,15 +129,18 @@ fn find(
                 matched,
                 ..
             } = found;
+            let p = matched;
             writeln!(
                 out,
-                "5.3  {name} {} {number} {}",
-                matched.start, matched.length
+                "{name}{}{}{}",
+                Spaced(p.start),
+                Spaced(number),
+                Spaced(p.length)
             )?;
             Ok(matched)
         }
         _ => {
-            writeln!(out, "5.3  {name} nothing")?;
+            writeln!(out, "{name} nothing")?;
             Ok(StrPtr::full(0, 0))
         }
     }
@@ -136,7 +150,7 @@ fn find(
 fn which_or_length(out: &mut Out, store: &[u8], digits: StrPtr) -> fmt::Result {
     let s345 = StrPtr::full(11, 5);
     let l1 = StrPtr::full(16, 3);
-    find(out, "cc", store, digits, &[s345, l1])?;
+    find(out, "5.3  cc", store, digits, &[s345, l1])?;
     Ok(())
 }
 
@@ -144,7 +158,7 @@ fn extension(out: &mut Out, store: &[u8], filnam: StrPtr) -> fmt::Result {
     let part = between(store, filnam, 2, 8);
     let point = StrPtr::full(11, 1);
     let bracket = StrPtr::full(12, 1);
-    find(out, "ccext", store, part, &[point, bracket])?;
+    find(out, "5.3  ccext", store, part, &[point, bracket])?;
     Ok(())
 }
 
@@ -153,11 +167,11 @@ fn stepped(out: &mut Out, store: &[u8], filspc: StrPtr) -> fmt::Result {
     let colon = StrPtr::full(11, 1);
     let bracket = StrPtr::full(12, 1);
     let part = between(store, filspc, 2, 8);
-    let p = find(out, "colon", store, part, &[colon])?;
+    let p = find(out, "5.3  colon", store, part, &[colon])?;
     let rest = relative(store, p, 1);
-    writeln!(out, "5.3  hasdev {}", rest.start)?;
+    writeln!(out, "5.3  hasdev{}", Spaced(rest.start))?;
     let part = between(store, filspc, rest.start, 0);
-    let p = find(out, "hasppn", store, part, &[bracket])?;
+    let p = find(out, "5.3  hasppn", store, part, &[bracket])?;
     let name = between(store, filspc, rest.start, p.start);
     show(out, "5.3  file name", store, name)
 }

@@ -2,7 +2,7 @@
 // table 1 and take it out of table 4, in which befchr is to find it.
 use super::cuts::{between, relative};
 use charset::CharAt;
-use saying::{Answer, Out, show};
+use saying::{Answer, Out, Spaced, show};
 use std::fmt;
 use std::fmt::Write;
 use strlib::{Refusal, StrPtr};
@@ -16,8 +16,9 @@ struct Sums(Block);
 impl fmt::Display for Sums {
     fn fmt<W: fmt::Write>(&self, f: &mut fmt::Formatter<W>) -> fmt::Result {
         let block = &self.0;
-        write!(f, "{} {} {}", block[97], block[49], block[43])?;
-        write!(f, " {} {} {}", block[46], block[32], block[9])
+        let sum = |character| Spaced(block[character]);
+        write!(f, "{}{}{}", sum(97), sum(49), sum(43))?;
+        writeln!(f, "{}{}{}", sum(46), sum(32), sum(9))
     }
 }
 
@@ -38,6 +39,11 @@ fn first(store: &[u8], host: StrPtr, block: &Block, mask: u64) -> CharAt {
 
 fn last(store: &[u8], host: StrPtr, block: &Block, mask: u64) -> CharAt {
     character_of(charset::find_last(store, host, block, mask))
+}
+
+// Its position and its code.
+fn show_character(out: &mut Out, name: &str, c: CharAt) -> fmt::Result {
+    writeln!(out, "{name}{}{}", Spaced(c.position), Spaced(c.code))
 }
 
 // All characters but those of the string: tabstr with one bit of its mask off.
@@ -69,10 +75,7 @@ fn parenthesis_tables(store: &[u8], block: &mut Block) -> Result<(), Refusal> {
 
 fn say_tables(out: &mut Out, block: &Block, made: Result<(), Refusal>) -> fmt::Result {
     let answer = Answer(made.map(|()| Sums(*block)));
-    writeln!(
-        out,
-        "5.4  tables of a, 1, plus, point, blank, tab: {answer}"
-    )
+    write!(out, "5.4  tables of a, 1, plus, point, blank, tab:{answer}")
 }
 
 // What stands in sp1 before the first character that is no digit or sign.
@@ -107,11 +110,11 @@ fn stripped(out: &mut Out, store: &[u8], numlst: StrPtr, block: &Block) -> fmt::
 // so that the start of what stands after the right one is innrp.
 fn innermost(out: &mut Out, store: &[u8], expres: StrPtr, block: &Block) -> fmt::Result {
     let left = last(store, expres, block, 8);
-    writeln!(out, "5.4  innlp {} {}", left.position, left.code)?;
+    show_character(out, "5.4  innlp", left)?;
     let part = between(store, expres, left.position, 0);
     let right = first(store, part, block, 16);
     let rest = relative(store, part, right.position);
-    writeln!(out, "5.4  innrp {}", rest.start)?;
+    writeln!(out, "5.4  innrp{}", Spaced(rest.start))?;
     let sp3 = between(store, expres, left.position, rest.start);
     show(out, "5.4  sp3", store, sp3)
 }
@@ -129,7 +132,7 @@ fn first_left(out: &mut Out, store: &[u8], expres: StrPtr, block: &Block) -> fmt
     )?;
     show(out, "5.4  allchr sp2 (manual: '(', the match)", store, sp2)?;
     let c = first(store, between(store, expres, 1, 2), block, 8);
-    writeln!(out, "5.4  anchor (manual: 0) {} {}", c.position, c.code)
+    show_character(out, "5.4  anchor (manual: 0)", c)
 }
 
 fn parentheses(out: &mut Out, store: &[u8], expres: StrPtr, block: &mut Block) -> fmt::Result {
@@ -138,7 +141,7 @@ fn parentheses(out: &mut Out, store: &[u8], expres: StrPtr, block: &mut Block) -
             innermost(out, store, expres, block)?;
             first_left(out, store, expres, block)
         }
-        Err(refusal) => writeln!(out, "5.4  refused {}", u8::from(refusal)),
+        Err(refusal) => writeln!(out, "5.4  refused{}", Spaced(u8::from(refusal))),
     }
 }
 

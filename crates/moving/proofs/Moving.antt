@@ -155,6 +155,28 @@ module _ (s : List ℕ) (from to n : ℕ) (b : Bool) where
 pub moved_done : (s t : List ℕ) (from to n : ℕ) → t ≡ put s to (take n (drop from s)) → from + n ≤ length s → to + n ≤ length s → t ≡ moved s from to n
 moved_done s t from to n p h k = p ∙ sym (moved_in s from to n h k)
 
+-- r is `to` less `from`, wrapped round: under n the target begins no earlier than the source, else no later or behind all
+-- of it
+module _ (size from to n : ℕ) (b : Bool) (e : b ≡ within size from n) (f : b ≡ true) (r : ℕ) (w : (r + from) % 2 ^ 64 ≡ to) (l : size < 2 ^ 64) where
+  lies : from + n ≤ size
+  lies = within_so size from n b e f
+
+  pub goes_up : r < n → from ≤ to
+  goes_up h =
+      let m : r + from < 2 ^ 64 = omega (arith, lies) in
+      let j : r + from ≡ to = sym (mod-eq_of_lt m) ∙ w in
+      omega arith
+
+  pub goes_down : n ≤ r → r < 2 ^ 64 → (to ≤ from) ⊎ (from + n ≤ to)
+  goes_down h k =
+      either
+      (2 ^ 64)
+      (r + from)
+      (λ o. let m : r + from - 2 ^ 64 < 2 ^ 64 = omega (arith, lies) in
+      let j : r + from - 2 ^ 64 ≡ to = sym (mod-eq_of_lt m) ∙ sym (mod-eq-sub-mod o) ∙ w in
+      inl (omega arith))
+      (λ o. let j : r + from ≡ to = sym (mod-eq_of_lt o) ∙ w in inr (omega arith))
+
 pub ruleset moved_laws = (rules, within_so, moved_from, moved_to, moved_done)
 
 pub ruleset down_laws = (rules, down_none, down_step, left_all, left_down, down_is)

@@ -1,14 +1,14 @@
 -- Laws of the two calls: the checks made first find what the rule's first checks find, and the answers follow from
 -- those behind them. Assumes nothing.
-use Rattle.std.proofs.Common.{◌≡◌, refl, sym, ap, ◌∙◌, Bool, true, cond, List, [], ◌++◌, ℕ, ◌≤◌, ◌<◌, ℤ, length, arith, Result}
+use Rattle.std.proofs.Common.{◌≡◌, refl, sym, ap, ◌∙◌, Bool, true, cond, List, [], ◌++◌, ℕ, ◌≤◌, ℤ, length, arith, Result}
 use Rattle.std.specs.Result.{IsErrAnd}
 use lib.Dec.{leb}
 use borrow.Author.Tests.{leb-true}
-use Rattle.strlib.proofs.Refusing.{first_behind, Passed, passed}
+use Rattle.strlib.proofs.Refusing.{first_before, first_behind, Passed, passed, ruled_no}
 use Rattle.strlib.proofs.Answering.{here_all, next_all, outcome_left, ruled_left, ruled_right}
 use Rattle.strlib.proofs.Pointing.{good_is}
 use Rattle.strlib.specs.Pointer.{sized, store_fits, good_in, text_of, readable}
-use Rattle.strlib.specs.Refusal.{Outcome, gives, outcome, refusal_number, answered}
+use Rattle.strlib.specs.Refusal.{Outcome, refused, gives, outcome, refusal_number, answered}
 use Rattle.strlib.specs.Store.{put}
 use Rattle.strlib.specs.declared.StrPtr.{StrPtr}
 use Rattle.strlib.specs.declared.refusal.Refusal.{Refusal}
@@ -78,12 +78,22 @@ module _ (s : List ℕ) (p : StrPtr) (z : ℤ) (base : ℕ) where
       let ok = passed (write_checks s p z base) refl e in
       record { before = ready (of_room p z base) ok; room = leb-true (length (written base z)) p.maximum ok.1.1.1.1.0 }
 
+-- of any number that the checks found
+module _ (s : List ℕ) (p : StrPtr) (z z' : ℤ) (base k : ℕ) (ez : z ≡ z') (e : k ≡ unwritable s p z base) where
+  pub write_refused : (k ≡ 0 → ⊥) → (refused k, s) ≡ write_rule s p z' base
+  unfolding unwritable write_refusal write_rule
+  write_refused h =
+      let same : k ≡ unwritable s p z' base = e ∙ rw ez in
+      ruled_no k (write_refusal s p z' base)
+      (first_before (before_digits s p z' base) (of_room p z' base) k same h)
+      (sized p (length (written base z'))) (put s p.start (written base z')) s h
+
 -- z is what the machine reads back from the bits of z'
 module _ (s : List ℕ) (p : StrPtr) (z z' : ℤ) (base : ℕ) (ez : z ≡ z') where
-  pub write_refused : (r : Result StrPtr Refusal) (f : Refusal) → IsErrAnd r (λ x. x ≡ f) → refusal_number f ≡ unwritable s p z base
+  pub write_left : (r : Result StrPtr Refusal) (f : Refusal) → IsErrAnd r (λ x. x ≡ f) → refusal_number f ≡ unwritable s p z base
       → (answered r, s) ≡ write_rule s p z' base
   unfolding unwritable write_refusal write_rule
-  write_refused r f q h =
+  write_left r f q h =
       ruled_left r f q (write_refusal s p z' base) (here_all f (before_digits s p z' base) (of_room p z' base) (h ∙ rw ez))
       (sized p (length (written base z'))) (put s p.start (written base z')) s
 

@@ -17,7 +17,7 @@ use Rattle.strlib.proofs.Refusing.{bool_case, and_both}
 use Rattle.strlib.proofs.Answering.{refusal_some, outcome_left, outcome_right}
 use Rattle.strlib.proofs.Pointing.{leb_same}
 use Rattle.strlib.specs.Pointer.{all}
-use Rattle.strlib.specs.Refusal.{Outcome, gives, outcome, refusal_number, answered}
+use Rattle.strlib.specs.Refusal.{Outcome, gives, refusal_number, answered}
 use Rattle.strlib.specs.declared.refusal.Refusal.{Refusal}
 use Rattle.words.proofs.Ending.{rest_is, blanks_front}
 use Rattle.words.proofs.Wording.{blanks_le}

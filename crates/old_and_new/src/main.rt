@@ -10,7 +10,7 @@
 
 mod old;
 
-use saying::Out;
+use saying::{Out, Spaced};
 use std::fmt;
 use std::fmt::Write;
 
@@ -90,9 +90,13 @@ fn end_to_end(seen: Seen, n: usize) -> Seen {
 
 impl fmt::Display for Seen {
     fn fmt<W: fmt::Write>(&self, f: &mut fmt::Formatter<W>) -> fmt::Result {
-        let alike = if self.alike { "alike" } else { "NOT ALIKE" };
+        let alike = if self.alike {
+            ": alike,"
+        } else {
+            ": NOT ALIKE,"
+        };
         let still = if self.still { " nothing written," } else { "" };
-        write!(f, "{alike},{still} {}", self.sum)
+        write!(f, "{alike}{still}{}", Spaced(self.sum))
     }
 }
 
@@ -109,7 +113,7 @@ fn of_length(out: &mut Out, n: usize) -> fmt::Result {
     for k in DISTANCES {
         seen = at_both(seen, n, k);
     }
-    writeln!(out, "length {n}: {seen}")
+    writeln!(out, "length{}{seen}", Spaced(n))
 }
 
 // Places outside the store: one byte too far, then so far that place and length wrap round.
@@ -129,7 +133,7 @@ fn outside(out: &mut Out) -> fmt::Result {
     let seen = trial(seen, most - 7, 0, 8);
     let seen = trial(seen, 0, most - 7, 8);
     let seen = trial(seen, most, most, most);
-    writeln!(out, "outside: {seen}")
+    writeln!(out, "outside{seen}")
 }
 
 fn moves(out: &mut Out) -> fmt::Result {

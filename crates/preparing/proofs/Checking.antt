@@ -5,7 +5,6 @@ use mathlib.Core.List.{List}
 use Prim.Native.Nat.{ℕ, ◌≤◌}
 use lib.Dec.{leb}
 use lib.ListN.{length, take}
-use native.Mathlib.Omega.{arith}
 use borrow.Author.Tests.{leb-true, le-leb}
 use Rattle.strlib.proofs.Checking.{first_both}
 use Rattle.strlib.proofs.Pointing.{fits_is}
@@ -15,7 +14,6 @@ use Rattle.strlib.specs.Pointer.{store_fits, good_in, all, characters, readable}
 use Rattle.strlib.specs.Refusal.{first, refusal_number}
 use Rattle.strlib.specs.declared.refusal.Refusal.{Refusal}
 use Rattle.strlib.proofs.Answering.{here, next, next_all}
-use Rattle.std.proofs.lemmas.List.{take_all, length-take}
 use Rattle.strlib.specs.declared.StrPtr.{StrPtr}
 use Rattle.states.specs.State.{total}
 use Rattle.preparing.proofs.Listing.{total_is}
@@ -33,16 +31,12 @@ source_passed s list count e =
     let ok = passed (source_checks s list count) refl e in
     record { small = fits_is s ok.0; few = leb-true _ _ ok.1.0; plain = ok.1.1.1.0 }
 
--- ---- the sizes, where nothing is refused of the list, whose listed strings are ps, of n characters together
+-- ---- the sizes, where nothing is refused of the list, of n characters together
 
-module _ (s : List ℕ) (list : List StrPtr) (count words : ℕ) (z : 0 ≡ source_refusal s list count) (ps : List StrPtr) (e : ps ≡ take count list)
-    (n : ℕ) (h : n ≡ total_of s ps (length ps)) where
+module _ (s : List ℕ) (list : List StrPtr) (count words : ℕ) (z : 0 ≡ source_refusal s list count) (n : ℕ) (h : n ≡ total_of s list count) where
   same_total : n ≡ total (listed s list count)
   unfolding source_refusal
-  same_total =
-      let ok = source_passed s list count (sym z) in
-      let few : length (take count list) ≤ 32 = simp length-take (omega (arith, ok.few)) in
-      h ∙ rw e (total_is s (take count list) (length (take count list)) ok.small few ∙ rw (take_all (length (take count list)) (take count list) (omega arith)))
+  same_total = let ok = source_passed s list count (sym z) in h ∙ total_is s list count ok.small ok.few
 
   pub size_refused : (x : Refusal) → refusal_number x ≡ cond (leb n 240) 0 9 → refusal_number x ≡ translate_refusal s list count words
   unfolding source_refusal translate_refusal

@@ -1,10 +1,12 @@
 -- Laws of the strings of a list, and of counting their characters. Assumes nothing.
 use mathlib.Core.Path.{◌≡◌, refl, sym, ap, ◌∙◌}
+use mathlib.Core.Bool.{and-false}
 use mathlib.Core.List.{List}
 use Prim.Native.Nat.{ℕ, zero, suc, ◌+◌, ◌-◌, ◌≤◌, ◌<◌}
 use native.Mathlib.Omega.{arith}
 use mathlib.Core.Logic.{◌⊎◌, ⊎_elim}
 use Rattle.std.proofs.lemmas.List.{drop_all, drop_more, take_all}
+use borrow.Author.Rules.{rules}
 use borrow.Author.Tests.{le-leb, lt-leb}
 use lib.ListN.{length, take, drop, get_or, length-take, length-drop}
 use Rattle.strlib.proofs.Texts.{listed_text}
@@ -50,6 +52,22 @@ module _ (s : List ℕ) (ps : List StrPtr) where
         let r : length x ≡ length (text_of s (get_or ps i d)) = ap length q in
         let t : sum + (length (text_of s (get_or ps i d)) + total (texts s (drop (i + 1) ps))) ≡ total (texts s ps) = rw (drop_more ps i d h) at e in
         omega arith
+
+-- ---- a list as it is passed
+
+module _ (s : List ℕ) (list : List StrPtr) (count : ℕ) where
+  pub listed_past : 32 < count → 0 ≡ total_of s list count
+  unfolding total_of
+  listed_past h = rw (lt-leb count 32 h, and-false)
+
+  pub listed_same : (ps : List StrPtr) (r : ℕ) → count ≤ 32 → ps ≡ take count list → r ≡ total_of s ps (length ps) → r ≡ total_of s list count
+  unfolding total_of
+  listed_same ps r h e q =
+      let few : length (take count list) ≤ 32 = simp length-take (omega (arith, h)) in
+      let p : take (length (take count list)) (take count list) ≡ take count list = take_all (length (take count list)) (take count list) (omega arith) in
+      q ∙ rw e (rw (le-leb (length (take count list)) 32 few, le-leb count 32 h, p))
+
+pub ruleset listed_laws = (rules, listed_past, listed_same)
 
 pub text_small : (s : List ℕ) (p : StrPtr) (x : List ℕ) → length s ≤ 65536 → x ≡ text_of s p → length x ≤ 65536
 text_small s p x room q = omega (arith, text_le s p, ap length q)

@@ -26,6 +26,17 @@ pub fn total_of(store: &[u8], strings: &[StrPtr]) -> usize
     sum
 }
 
+// The same of a list as it is passed, with any count.
+#[tactic(auto, using(crate::proofs::Listing::listed_laws))]
+pub fn total_listed(store: &[u8], list: &StrList) -> usize
+    ensures { result ≡ total_of store.now list.now.items list.now.count }
+{
+    if StrPtr::LIST_MAX < list.count {
+        return 0;
+    }
+    total_of(store, list.strings())
+}
+
 fn check_list(store: &[u8], list: &StrList) -> Result<(), Refusal>
     ensures { number_found result ≡ source_refusal store.now list.now.items list.now.count }
 {
@@ -40,7 +51,7 @@ pub fn check_translate(store: &[u8], list: &StrList, words: usize) -> Result<(),
     ensures { number_found result ≡ translate_refusal store.now list.now.items list.now.count words }
 {
     check_list(store, list)?;
-    let n = total_of(store, list.strings());
+    let n = total_listed(store, list);
     strlib::check(n <= StrPtr::LIST_CHARACTERS_MAX, Refusal::Translation)?;
     strlib::check(StrPtr::TABLE_MIN <= words, Refusal::Translation)
 }

@@ -83,12 +83,12 @@ module _ (ss : List (List ℕ)) (h : List ℕ) where
 
 -- a listed string, whose characters are x, is tried where p characters were passed
 module _ (s : List ℕ) (ps : List StrPtr) (h : List ℕ) (p k : ℕ) (i : k < length ps) (l : List StrPtr) (el : l ≡ ps) (d : StrPtr) (x : List ℕ) (q : x ≡ text_of s (get_or l k d))
-    (b : Bool) (e : b ≡ pointwise eqb x (take (length x) (take (length h - p) (drop p h)))) where
+    (b : Bool) (e : b ≡ is_prefix x (take (length h - p) (drop p h))) where
   stands : x ≡ get_or (texts s ps) k []
   stands = q ∙ rw el (sym (listed_text s ps k d i))
 
   pub tried_is : is_prefix (get_or (texts s ps) k []) (take (length h - p) (drop p h)) ≡ b
-  tried_is = rw (← stands) (sym (prefix_starts x (take (length h - p) (drop p h)) b e))
+  tried_is = rw (← stands) (sym e)
 
   pub find_hit : {A : Type 0} (f : ℕ → ℕ → ℕ → A) → Passed (texts s ps) h p → p ≤ length h → b ≡ true
       → ((j : ℕ) → j < k → is_prefix (get_or (texts s ps) j []) (take (length h - p) (drop p h)) ≡ false)

@@ -1,14 +1,15 @@
 -- Laws of prefixes, by going through both lists. Assumes nothing.
-use Prim.Native.Nat.{ℕ, ◌≤◌}
-use mathlib.Core.Path.{◌≡◌, refl, ◌∙◌}
-use mathlib.Core.Bool.{Bool, true, false≢true}
+use Prim.Native.Nat.{ℕ, zero, suc, ◌≤◌, ◌<◌}
+use mathlib.Core.Path.{◌≡◌, refl, sym, ◌∙◌}
+use mathlib.Core.Bool.{Bool, true, false, false≢true}
 use mathlib.Core.List.{List, [], ◌∷◌}
 use native.Mathlib.Omega.{arith}
 use lib.Dec.{eqb}
-use lib.ListN.{length, take}
-use borrow.Author.Tests.{eqb-true, eq-eqb}
+use lib.ListN.{length, take, get_or}
+use borrow.Author.Rules.{rules}
+use borrow.Author.Tests.{eqb-true, eq-eqb, ne_eqb}
 use Rattle.std.specs.Cmp.Lexicographic.{pointwise}
-use Rattle.strlib.proofs.Refusing.{and_both}
+use Rattle.strlib.proofs.Refusing.{bool_case, and_both}
 use Rattle.search.specs.Search.{is_prefix}
 
 -- ---- a prefix is what stands at the front
@@ -42,3 +43,26 @@ prefix_starts s h b e = e ∙ go s h
     go [] h = refl
     go (x ∷ s) [] = refl
     go (x ∷ s) (y ∷ h) = rw (go s h)
+
+-- ---- what tells before the whole string is compared
+
+pub prefix_apart : (s h : List ℕ) → 0 < length h → 0 < length s → (get_or h 0 0 ≡ get_or s 0 0 → ⊥) → false ≡ is_prefix s h
+prefix_apart [] h a b d = absurd (omega (arith, b))
+prefix_apart (x ∷ s) [] a b d = refl
+prefix_apart (x ∷ s) (y ∷ h) a b d = rw (ne_eqb x y (λ e. d (sym e)))
+
+-- the first n characters of a prefix
+pub prefix_front : (s h : List ℕ) (n : ℕ) → is_prefix s h ≡ true → is_prefix (take n s) h ≡ true
+prefix_front s h zero e = refl
+prefix_front [] h (suc n) e = refl
+prefix_front (x ∷ s) [] (suc n) e = absurd (false≢true e)
+prefix_front (x ∷ s) (y ∷ h) (suc n) e = let b = and_both (eqb x y) (is_prefix s h) e in rw (b.0, prefix_front s h n b.1)
+
+-- where these do not stand, nor does the whole
+pub prefix_front_not : (s h : List ℕ) (n : ℕ) (b : Bool) → b ≡ pointwise eqb (take n s) (take (length (take n s)) h) → b ≡ false → false ≡ is_prefix s h
+prefix_front_not s h n b e f =
+    bool_case (is_prefix s h)
+    (λ t. absurd (false≢true (sym f ∙ prefix_starts (take n s) h b e ∙ prefix_front s h n t)))
+    (λ t. sym t)
+
+pub ruleset begin_laws = (rules, prefix_apart, prefix_front_not, prefix_starts)

@@ -2,7 +2,7 @@
 ghost use Rattle.std.specs.Prelude.{◌≡◌, take};
 ghost use Rattle.strlib.specs.Pointer.{texts};
 ghost use Rattle.strlib.specs.Refusal.{number_found, sought_of, sought_answered};
-ghost use Rattle.search.specs.Search.{plain_search};
+ghost use Rattle.search.specs.Search.{is_prefix, plain_search};
 ghost use Rattle.search.specs.Inner.{spot};
 ghost use Rattle.search.specs.Rule.{search_refusal, given, search_by};
 
@@ -16,6 +16,21 @@ pub struct Spot {
     pub pos2: usize,
 }
 
+// Whether a string's characters stand at the front of a text. Mostly the first one tells, or the first eight, which are
+// compared at once; the library's test of a longer string looks at many before it leaves.
+#[tactic(auto, using(crate::proofs::Prefixes::begin_laws))]
+fn begins_with(text: &[u8], string: &[u8]) -> bool
+    ensures { result ≡ is_prefix string.now text.now }
+{
+    if 0 < text.len() && 0 < string.len() && text[0] != string[0] {
+        return false;
+    }
+    if 8 <= text.len() && 8 <= string.len() && text[..8] != string[..8] {
+        return false;
+    }
+    text.starts_with(string)
+}
+
 // The smallest position, then the smallest number. The loops are nested and leave by a label: 01 fixes this form.
 fn find(store: &[u8], text: &[u8], list: &StrList) -> Option<Spot>
     ensures { sought_of result ≡ given spot (plain_search (texts store.now (take list.now.count list.now.items)) text.now) }
@@ -25,7 +40,7 @@ fn find(store: &[u8], text: &[u8], list: &StrList) -> Option<Spot>
         let rest = &text[skipped..];
         for (k, p) in list.strings().iter().enumerate() {
             let string = strlib::text(store, *p);
-            if rest.starts_with(string) {
+            if begins_with(rest, string) {
                 found = Some(Spot {
                     number: k + 1,
                     pos1: skipped + 1,

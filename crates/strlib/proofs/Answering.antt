@@ -1,11 +1,12 @@
 -- Laws of the code's refusals: what a `?` that leaves a function answers, and what is known behind one that does not.
 -- Assumes nothing.
 use Rattle.std.proofs.Common.{ℕ, zero, suc, ◌≡◌, refl, sym, ap, ◌∙◌, cond, Bool, true, false, List, [], ◌∷◌, ◌++◌, Option, Result, Ok, Err, arith, rules, ltb}
+use borrow.Author.Tests.{lt-ltb}
 use Rattle.std.specs.Result.{IsErrAnd}
 use Rattle.std.proofs.lemmas.Result.{err_from_is_err_and}
-use Rattle.strlib.specs.Refusal.{Outcome, Sought, refused, gives, first, outcome, after, ruled, refusal_number, number_found, answered, sought_answered}
+use Rattle.strlib.specs.Refusal.{Sought, gives, first, also, outcome, ruled, refusal_number, number_found, answered, sought_answered}
 use Rattle.strlib.specs.declared.refusal.Refusal.{Refusal}
-use Rattle.strlib.proofs.Refusing.{numbered, first_before, first_behind, outcome_no, outcome_yes, ruled_no, ruled_yes}
+use Rattle.strlib.proofs.Refusing.{numbered, first_is, first_before, first_behind, outcome_no, outcome_yes, ruled_no, ruled_yes}
 
 pub refusal_some : (e : Refusal) → refusal_number e ≡ 0 → ⊥
 refusal_some e h = grind arith
@@ -14,19 +15,31 @@ refusal_some e h = grind arith
 pub err_is : {A E : Type 0} (r : Result A E) (e : E) → IsErrAnd r (λ x. x ≡ e) → r ≡ Err e
 err_is r e p = let q = err_from_is_err_and r p in rw (← q.2) q.1
 
--- ---- one check, and those behind it
+-- ---- one check, and those behind it: `?` makes them in turn, so that the first that fails is found by `first_is`
 
 pub cond_passed : (b : Bool) (n : ℕ) → 0 ≡ cond b 0 (suc n) → b ≡ true
 cond_passed true n e = refl
 cond_passed false n e = absurd (omega (arith, e))
 
+two_numbered : (n k : ℕ) (b c : Bool) → numbered ((suc n, b) ∷ (suc k, c) ∷ []) ≡ true
+two_numbered n k b c = rw (lt-ltb 0 (suc n) (omega arith), lt-ltb 0 (suc k) (omega arith))
+
+-- a check that fails, before one that would find k
+pub fails_first : (m n : ℕ) (b : Bool) (k : ℕ) → (m ≡ 0 → ⊥) → m ≡ cond b 0 n → m ≡ cond b k n
+unfolding also
+fails_first zero n b k z h = absurd (z refl)
+fails_first (suc m) zero true k z h = absurd (z h)
+fails_first (suc m) zero false k z h = absurd (z h)
+fails_first (suc m) (suc n) b zero z h = h
+fails_first (suc m) (suc n) b (suc k) z h = first_is ((suc n, b) ∷ (suc k, false) ∷ []) (two_numbered n k b false) (suc m) (ap (λ (x : ℕ). also x (suc k) false) h)
+
 pub here : (e : Refusal) (b : Bool) (n k : ℕ) → refusal_number e ≡ cond b 0 n → refusal_number e ≡ cond b k n
-here e true n k h = absurd (refusal_some e h)
-here e false n k h = h
+here e b n k h = fails_first (refusal_number e) n b k (refusal_some e) h
 
 pub next : (b : Bool) (n x k : ℕ) → 0 ≡ cond b 0 (suc n) → x ≡ k → x ≡ cond b k (suc n)
-next true n x k h e = e
-next false n x k h e = absurd (omega (arith, h))
+unfolding also
+next b n x zero h e = e ∙ h
+next b n x (suc k) h e = first_is ((suc n, b) ∷ (suc k, false) ∷ []) (two_numbered n k b false) x (e ∙ ap (λ (y : ℕ). also y (suc k) false) h)
 
 -- ---- a list of checks, and those behind it
 

@@ -1,6 +1,6 @@
 // The checks of a call, made in the order of their numbers: the first that does not hold is the call's refusal. A
 // string's characters are looked at only where nothing was refused before.
-ghost use Rattle.std.specs.Prelude.{◌&&◌, ◌≡◌, cond};
+ghost use Rattle.std.specs.Prelude.{◌&&◌, ◌≡◌, cond, Ok, Err};
 ghost use Rattle.strlib.specs.Pointer.{store_fits, good_in, characters, readable};
 ghost use Rattle.strlib.specs.Refusal.{refusal_number, number_found};
 ghost use Rattle.strlib.specs.Checks.{into_refusal};
@@ -14,6 +14,14 @@ pub fn both(a: bool, b: bool) -> bool
     a && b
 }
 
+// One check, with any error: a refusal, a fault that carries more, any number.
+pub fn check_or<E: Drop>(ok: bool, error: E) -> Result<(), E>
+    ensures { result ≡ cond ok (Ok tt) (Err error) }
+{
+    if ok { Ok(()) } else { Err(error) }
+}
+
+// One check, with one of the paper's refusals. Written out: by a call of `check_or` each check takes a little longer.
 pub fn check(ok: bool, refusal: Refusal) -> Result<(), Refusal>
     ensures { number_found result ≡ cond ok 0 (refusal_number refusal) }
 {

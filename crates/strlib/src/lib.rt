@@ -10,7 +10,7 @@ ghost use Rattle.std.specs.Prelude.{◌≡◌};
 ghost use Rattle.strlib.specs.Pointer.{good_in, pointer, sized, part_at};
 
 pub use checks::{
-    both, check, check_characters, check_good, check_into, check_readable, check_store,
+    both, check, check_characters, check_good, check_into, check_or, check_readable, check_store,
 };
 pub use lists::{StrList, check_all_clear, check_all_good, check_all_readable};
 pub use refusal::Refusal;

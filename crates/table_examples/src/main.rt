@@ -6,7 +6,7 @@
 
 ghost use Rattle.table_examples.specs.Two.{two_answered, SearchedTwo};
 
-use saying::{Answer, Out};
+use saying::{Answer, Out, Spaced};
 use search::Match;
 use std::fmt;
 use std::fmt::Write;
@@ -54,15 +54,18 @@ struct Line {
 impl fmt::Display for Line {
     fn fmt<W: fmt::Write>(&self, f: &mut fmt::Formatter<W>) -> fmt::Result {
         match self.ran.note {
-            Some(Note { string, pos1, pos2 }) => write!(f, "{string}, {pos1} to {pos2}")?,
-            None => write!(f, "nothing")?,
+            Some(note) => {
+                write!(f, "{},{}", Spaced(note.string), Spaced(note.pos1))?;
+                write!(f, " to{}, read", Spaced(note.pos2))?;
+            }
+            None => write!(f, " nothing, read")?,
         }
         let plain = if self.same {
-            "plain the same"
+            ", plain the same\n"
         } else {
-            "PLAIN DIFFERS"
+            ", PLAIN DIFFERS\n"
         };
-        write!(f, ", read {}, {plain}", self.ran.read)
+        write!(f, "{}{plain}", Spaced(self.ran.read))
     }
 }
 
@@ -76,7 +79,7 @@ fn say_run(
         ran,
         same: is_plain(ran.note, plain),
     });
-    writeln!(out, "{name} {}", Answer(line))
+    write!(out, "{name}{}", Answer(line))
 }
 
 // A host of n characters at the front of its store, without its first character.
@@ -109,7 +112,10 @@ fn show(out: &mut Out, name: &str, store: &[u8], n: usize, sizes: &[usize]) -> f
             say_run(out, name, first, search::search(store, whole, list))?;
             say_run(out, name, second, search::search(store, rest, list))
         }
-        Err(refusal) => writeln!(out, "{name} not translated {}", u8::from(refusal)),
+        Err(refusal) => {
+            let number = Spaced(u8::from(refusal));
+            writeln!(out, "{name} not translated{number}")
+        }
     }
 }
 

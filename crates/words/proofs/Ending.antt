@@ -1,6 +1,7 @@
 -- Laws of the ends that are sought from a place on. Assumes nothing.
-use Rattle.std.proofs.Common.{◌≡◌, refl, Bool, cond, not, List, ℕ, ◌+◌, ◌-◌, Option, Some, None, unwrap_or, length, take, drop, eqb, ltb, arith, zero-add, one-add}
+use Rattle.std.proofs.Common.{◌≡◌, refl, sym, ◌≤◌, add-zero, Bool, cond, not, List, ℕ, ◌+◌, ◌-◌, Option, Some, None, unwrap_or, length, take, drop, eqb, ltb, arith, zero-add, one-add}
 use Rattle.std.specs.List.{position_or_len}
+use Rattle.std.proofs.lemmas.List.{drop_all}
 use Rattle.std.proofs.lemmas.List.Recursion.{is_position_or_len}
 use Rattle.std.proofs.lemmas.List.Sums.{prefix_len-le-length}
 use borrow.Author.Tests.{ltb-false}
@@ -35,6 +36,16 @@ module _ (s : List ℕ) (at n : ℕ) where
   pub byte_at : (b : ℕ) → n ≡ position_or_len (λ c. eqb c b) (drop at s) → at + n ≡ end_of b s at
   unfolding end_of
   byte_at b e = rw (e, byte_place b (drop at s))
+
+-- at the text's end, and past it
+module _ (s : List ℕ) (at : ℕ) where
+  pub blanks_past : length s ≤ at → at ≡ blanks_end s at
+  unfolding blanks_end blank_count
+  blanks_past h = rw (drop_all at s h) (sym (add-zero at))
+
+  pub byte_past : (b : ℕ) → length s ≤ at → at ≡ end_of b s at
+  unfolding end_of up_to
+  byte_past b h = rw (drop_all at s h) (sym (add-zero at))
 
 -- a slice from a place on to its end
 pub rest_is : (s : List ℕ) (i : ℕ) → take (length s - i) (drop i s) ≡ drop i s

@@ -2,7 +2,7 @@
 // text's end.
 #![tactic(auto)]
 
-ghost use Rattle.std.specs.Prelude.{◌≡◌, drop};
+ghost use Rattle.std.specs.Prelude.{◌≡◌};
 ghost use Rattle.words.specs.Lines.{next_line};
 ghost use Rattle.words.specs.Words.{same, pointer_of, next_word};
 ghost use Rattle.words.specs.Alike.{common};
@@ -44,18 +44,15 @@ pub fn are_same(a: &[u8], b: &[u8]) -> bool
     a == b
 }
 
-// The text from `at` on.
-fn rest(text: &[u8], at: usize) -> &[u8]
-    ensures { result.now ≡ drop at text.now }
-{
-    &text[at.min(text.len())..]
-}
-
-// The first place from `at` on that has no blank.
+// The first place from `at` on that has no blank. A place at the text's end, as behind a line's last word, is told at
+// once: a line of few words has its missing ones there.
 pub fn blanks_end(text: &[u8], at: usize) -> usize
     ensures { result ≡ blanks_end text.now at }
 {
-    let left = rest(text, at);
+    if text.len() <= at {
+        return at;
+    }
+    let left = &text[at..];
     at + left.iter().position(|c| *c != b' ').unwrap_or(left.len())
 }
 
@@ -63,7 +60,10 @@ pub fn blanks_end(text: &[u8], at: usize) -> usize
 fn byte_end(text: &[u8], at: usize, byte: u8) -> usize
     ensures { result ≡ end_of byte text.now at }
 {
-    let left = rest(text, at);
+    if text.len() <= at {
+        return at;
+    }
+    let left = &text[at..];
     at + left.iter().position(|c| *c == byte).unwrap_or(left.len())
 }
 

@@ -10,7 +10,7 @@ returns-in_err-check_list c = search answer_laws
 
 pub returns-in_err-check : goal.returns-in_err-check
 returns-in_err-check c =
-    stop _ _ c.from_residual-in_err-check.ensures.1 _ (size_refused _ _ _ _ c.in_ok-check_list.ensures _ c.strings.ensures _ c.total_of-n.ensures _ c.in_err-check.ensures)
+    stop _ _ c.from_residual-in_err-check.ensures.1 _ (size_refused _ _ _ _ c.in_ok-check_list.ensures _ c.total_listed-n.ensures _ c.in_err-check.ensures)
 
 pub returns : goal.returns
-returns c = size_checked _ _ _ _ c.in_ok-check_list.ensures _ c.strings.ensures _ c.total_of-n.ensures _ c.in_ok-check.ensures c.check-2.ensures
+returns c = size_checked _ _ _ _ c.in_ok-check_list.ensures _ c.total_listed-n.ensures _ c.in_ok-check.ensures c.check-2.ensures

@@ -1,10 +1,10 @@
 use Rattle.std.proofs.Common.{refl}
 use mir.Facts.{to_z-of_z}
-use Rattle.number.proofs.Calling.{write_refused, write_base, write_range, write_long, write_room, write_given}
+use Rattle.number.proofs.Calling.{write_left, write_base, write_range, write_long, write_room, write_given}
 use Rattle.number.proofs.writer.write.Goals as goal
 
 pub returns-in_err-check_write : goal.returns-in_err-check_write
-returns-in_err-check_write c = write_refused _ _ _ _ _ (to_z-of_z c.ranges.value) _ _ c.from_residual.ensures.1 c.in_err-check_write.ensures
+returns-in_err-check_write c = write_left _ _ _ _ _ (to_z-of_z c.ranges.value) _ _ c.from_residual.ensures.1 c.in_err-check_write.ensures
 
 pub text_length-count-requires : goal.text_length-count-requires
 text_length-count-requires c = (write_base _ _ _ _ _ refl c.in_ok-check_write.ensures, write_range _ _ _ _ _ refl c.in_ok-check_write.ensures)

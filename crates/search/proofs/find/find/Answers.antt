@@ -16,7 +16,7 @@ loop-k-preserved c =
     record {
       none = c.loop-k.invariant.none;
       tried = below_more (λ (i : ℕ). is_prefix (get_or (texts c.args.store.now ps) i []) rest ≡ false) _ c.loop-k.invariant.tried
-          (tried_is _ _ c.args.text.now c.positions.skipped _ (rw c.strings-p-items.ensures at c.loop-k-test.true) _ c.strings-p-items.ensures _ _ c.text-string.ensures _ c.starts_with.ensures.value ∙ c.if-starts_with.false);
+          (tried_is _ _ c.args.text.now c.positions.skipped _ (rw c.strings-p-items.ensures at c.loop-k-test.true) _ c.strings-p-items.ensures _ _ c.text-string.ensures _ c.begins_with.ensures ∙ c.if-begins_with.false);
     }
 
 pub positions-preserved : goal.positions-preserved
@@ -26,10 +26,10 @@ positions-preserved c = record {
       (λ k h. c.loop-k.invariant.tried k (omega (arith, texts_long c.args.store.now (take c.args.list.now.count c.args.list.now.items), ap length c.strings-p-items.ensures)));
 }
 
-pub returns-then-starts_with : goal.returns-then-starts_with
-returns-then-starts_with c =
-    find_hit _ _ _ _ _ (rw c.strings-p-items.ensures at c.loop-k-test.true) _ c.strings-p-items.ensures _ _ c.text-string.ensures _ c.starts_with.ensures.value _ c.positions.invariant.passed
-    (omega arith) c.if-starts_with.true c.loop-k.invariant.tried
+pub returns-then-begins_with : goal.returns-then-begins_with
+returns-then-begins_with c =
+    find_hit _ _ _ _ _ (rw c.strings-p-items.ensures at c.loop-k-test.true) _ c.strings-p-items.ensures _ _ c.text-string.ensures _ c.begins_with.ensures _ c.positions.invariant.passed
+    (omega arith) c.if-begins_with.true c.loop-k.invariant.tried
 
 pub returns-2 : goal.returns-2
 returns-2 c =

@@ -1,8 +1,8 @@
-use Rattle.std.proofs.Common.{rules, ap, ◌∙◌, cond, length, Bool}
+use Rattle.std.proofs.Common.{rules}
 use borrow.Author.Tests.{tests}
 use Rattle.std.proofs.lemmas.Iterator.{YieldsList-from_slice}
 use Rattle.std.proofs.lemmas.Iterator.Search.{all_from_yields_List}
-use Rattle.strlib.specs.Pointer.{good_in, readable, clear}
+use Rattle.strlib.specs.Pointer.{clear}
 use Rattle.strlib.proofs.Listing.{all_list}
 use Rattle.strlib.proofs.lists.check_all_clear.Goals as goal
 

@@ -1,14 +1,16 @@
 -- Laws of prefixes, by going through both lists. Assumes nothing.
 use Prim.Native.Nat.{ℕ, zero, suc, ◌≤◌, ◌<◌}
-use mathlib.Core.Path.{◌≡◌, refl, sym, ◌∙◌}
-use mathlib.Core.Bool.{Bool, true, false, false≢true}
+use mathlib.Core.Path.{◌≡◌, refl, sym, ap, ◌∙◌}
+use mathlib.Core.Bool.{Bool, true, false, ◌&&◌, false≢true}
 use mathlib.Core.List.{List, [], ◌∷◌}
 use native.Mathlib.Omega.{arith}
-use lib.Dec.{eqb}
-use lib.ListN.{length, take, get_or}
+use lib.Dec.{eqb, leb}
+use lib.ListN.{length, take}
 use borrow.Author.Rules.{rules}
-use borrow.Author.Tests.{eqb-true, eq-eqb, ne_eqb}
+use borrow.Author.Tests.{eqb-true, eq-eqb, lt-leb}
+use Rattle.std.proofs.Common.{zip}
 use Rattle.std.specs.Cmp.Lexicographic.{pointwise}
+use Rattle.std.specs.List.{list_all}
 use Rattle.strlib.proofs.Refusing.{bool_case, and_both}
 use Rattle.search.specs.Search.{is_prefix}
 
@@ -44,12 +46,23 @@ prefix_starts s h b e = e ∙ go s h
     go (x ∷ s) [] = refl
     go (x ∷ s) (y ∷ h) = rw (go s h)
 
--- ---- what tells before the whole string is compared
+-- ---- pair by pair, of a text that is no shorter
 
-pub prefix_apart : (s h : List ℕ) → 0 < length h → 0 < length s → (get_or h 0 0 ≡ get_or s 0 0 → ⊥) → false ≡ is_prefix s h
-prefix_apart [] h a b d = absurd (omega (arith, b))
-prefix_apart (x ∷ s) [] a b d = refl
-prefix_apart (x ∷ s) (y ∷ h) a b d = rw (ne_eqb x y (λ e. d (sym e)))
+pub prefix_pairs : (s h : List ℕ) → length s ≤ length h → list_all (λ p. eqb p.0 p.1) (zip s h) ≡ is_prefix s h
+prefix_pairs [] h l = refl
+prefix_pairs (x ∷ s) [] l = absurd (omega (arith, l))
+prefix_pairs (x ∷ s) (y ∷ h) l = ap (λ (b : Bool). eqb x y && b) (prefix_pairs s h (omega (arith, l)))
+
+pub prefix_long : (s h : List ℕ) → length h < length s → false ≡ is_prefix s h
+prefix_long s h l =
+    bool_case (is_prefix s h)
+    (λ t. absurd (omega (arith, l, prefix_length s h t)))
+    (λ t. sym t)
+
+pub prefix_short : (s h : List ℕ) → length h < length s → leb (length s) (length h) ≡ is_prefix s h
+prefix_short s h l = lt-leb (length s) (length h) l ∙ prefix_long s h l
+
+-- ---- what tells before the whole string is compared
 
 -- the first n characters of a prefix
 pub prefix_front : (s h : List ℕ) (n : ℕ) → is_prefix s h ≡ true → is_prefix (take n s) h ≡ true
@@ -65,4 +78,4 @@ prefix_front_not s h n b e f =
     (λ t. absurd (false≢true (sym f ∙ prefix_starts (take n s) h b e ∙ prefix_front s h n t)))
     (λ t. sym t)
 
-pub ruleset begin_laws = (rules, prefix_apart, prefix_front_not, prefix_starts)
+pub ruleset begin_laws = (rules, prefix_front_not, prefix_starts, prefix_long, prefix_short)

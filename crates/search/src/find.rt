@@ -16,19 +16,17 @@ pub struct Spot {
     pub pos2: usize,
 }
 
-// Whether a string's characters stand at the front of a text. Mostly the first one tells, or the first eight, which are
-// compared at once; the library's test of a longer string looks at many before it leaves.
+// Whether a string's characters stand at the front of a text. The first eight of a longer string are compared at once,
+// and mostly tell; of a shorter one the first few do. The rest goes by `==`, which is a call, where the library's
+// `starts_with` would be taken into the search's loops and use up their registers.
 #[tactic(auto, using(crate::proofs::Prefixes::begin_laws))]
 fn begins_with(text: &[u8], string: &[u8]) -> bool
     ensures { result ≡ is_prefix string.now text.now }
 {
-    if 0 < text.len() && 0 < string.len() && text[0] != string[0] {
-        return false;
+    if let (Some(eight), Some(front)) = (string.first_chunk::<8>(), text.first_chunk::<8>()) {
+        return eight == front && string.len() <= text.len() && string == &text[..string.len()];
     }
-    if 8 <= text.len() && 8 <= string.len() && text[..8] != string[..8] {
-        return false;
-    }
-    text.starts_with(string)
+    string.len() <= text.len() && string.iter().zip(text).all(|(s, t)| s == t)
 }
 
 // The smallest position, then the smallest number. The loops are nested and leave by a label: 01 fixes this form.

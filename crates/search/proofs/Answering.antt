@@ -6,13 +6,13 @@ use mathlib.Core.List.{List}
 use native.Mathlib.Omega.{arith}
 use lib.Dec.{leb}
 use lib.ListN.{length, take, drop, length-take, length-drop}
-use Rattle.std.specs.Prelude.{Option, Some, None, Result, Err}
+use Rattle.std.specs.Prelude.{Option, Some, None, Result}
 use Rattle.strlib.specs.declared.refusal.Refusal.{Refusal}
 use Rattle.std.specs.Option.{option_map}
 use Rattle.strlib.proofs.Pointing.{fits_is, good_is, text_length}
-use Rattle.strlib.proofs.Refusing.{passed, outcome_no, outcome_yes, outcome_gave, outcome_refused}
+use Rattle.strlib.proofs.Refusing.{passed, outcome_yes, outcome_gave, outcome_refused}
 use Rattle.strlib.specs.Pointer.{part_of, store_fits, good_in, text_of, texts, all, readable}
-use Rattle.strlib.specs.Refusal.{refused, gives, outcome, Sought, sought_of, sought_answered, refusal_number}
+use Rattle.strlib.specs.Refusal.{refused, gives, outcome, sought_of, sought_answered, refusal_number}
 use Rattle.strlib.specs.declared.StrPtr.{StrPtr}
 use Rattle.search.specs.Search.{nothing, found, plain_search}
 use Rattle.search.specs.Search.{Result as SoughtResult}
@@ -22,7 +22,6 @@ use Rattle.search.specs.Rule.{search_checks, search_refusal, sought, parts_of, s
 use Rattle.search.specs.declared.find.Spot.{Spot}
 use Rattle.search.proofs.Meaning.{search_law}
 use Rattle.std.specs.Result.{IsErrAnd}
-use Rattle.std.proofs.lemmas.Result.{err_from_is_err_and}
 use Rattle.strlib.proofs.Answering.{err_is}
 
 module _ (s : List ℕ) (host : StrPtr) (l : List StrPtr) (c : ℕ) where

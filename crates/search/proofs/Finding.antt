@@ -1,8 +1,6 @@
 -- Laws of finding: the listed strings are tried one by one, and where p characters were passed, what is left to search
 -- is the rest of the host. Assumes nothing.
-use Rattle.std.proofs.Common.{ℕ, zero, suc, ◌+◌, ◌-◌, ◌≤◌, ◌<◌, ◌≡◌, refl, sym, ◌∙◌, Bool, true, false, cond, List, [], ◌∷◌, length, take, drop, get_or, length-drop, leb, eqb, zero-add, arith}
-use Rattle.std.specs.Cmp.Lexicographic.{pointwise}
-use Rattle.search.proofs.Prefixes.{prefix_starts}
+use Rattle.std.proofs.Common.{ℕ, zero, suc, ◌+◌, ◌-◌, ◌≤◌, ◌<◌, ◌≡◌, refl, sym, ◌∙◌, Bool, true, false, cond, List, [], ◌∷◌, length, take, drop, get_or, length-drop, leb, zero-add, arith}
 use Rattle.std.proofs.lemmas.List.{drop-drop, take_rest}
 use borrow.Author.Tests.{le-leb, lt-leb}
 use Rattle.strlib.proofs.Pointing.{leb_same}

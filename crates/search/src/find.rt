@@ -16,9 +16,9 @@ pub struct Spot {
     pub pos2: usize,
 }
 
-// Whether a string's characters stand at the front of a text. The first eight of a longer string are compared at once,
-// and mostly tell; of a shorter one the first few do. The rest goes by `==`, which is a call, where the library's
-// `starts_with` would be taken into the search's loops and use up their registers.
+// Whether a string's characters stand at the front of a text. Of eight and more the first eight are compared at once,
+// and mostly tell; of fewer the first few do. The rest goes by `==`, which is a call: the library's `starts_with` would
+// be taken into the search's loops and use up their registers.
 #[tactic(auto, using(crate::proofs::Prefixes::begin_laws))]
 fn begins_with(text: &[u8], string: &[u8]) -> bool
     ensures { result ≡ is_prefix string.now text.now }
